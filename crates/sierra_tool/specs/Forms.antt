@@ -1,0 +1,30 @@
+-- The texts of the form of program that is built, and of its input.
+use Rattle.std.specs.Prelude.{ℕ, ◌≡◌, ◌<◌, ◌^◌, List, [], ◌∷◌, codes, decimal}
+use Rattle.std.specs.List.{concat}
+use Rattle.felt64.specs.Field.{modulus}
+use Rattle.sierra_tool.specs.declared.program.Program.{Program}
+use Rattle.sierra_tool.specs.declared.input.Input.{Input}
+
+-- the program that adds a constant to its one argument, with these digits as the constant
+abbrev pub program_text : List ℕ → List ℕ
+program_text digits =
+    concat (codes "type felt64 = felt64;\n\nlibfunc felt64_const<" ∷ digits
+    ∷ codes "> = felt64_const<" ∷ digits
+    ∷ codes ">;\nlibfunc felt64_add = felt64_add;\nlibfunc store_temp<felt64> = store_temp<felt64>;\n\nfelt64_const<" ∷ digits
+    ∷ codes ">() -> ([1]);\nfelt64_add([0], [1]) -> ([2]);\nstore_temp<felt64>([2]) -> ([3]);\nreturn([3]);\n\nmain@0([0]: felt64) -> (felt64);\n"
+    ∷ [])
+
+-- the line `gas N`, and a line with the argument
+abbrev pub input_text : List ℕ → List ℕ → List ℕ
+input_text gas argument = concat (codes "gas " ∷ gas ∷ codes "\n" ∷ argument ∷ codes "\n" ∷ [])
+
+-- the text is that of the program: its constant below P in decimal digits without a leading zero
+pub record IsProgram (text : List ℕ) (program : Program) : Type 0 where
+  pub below : program.constant < modulus
+  pub text_is : text ≡ program_text (decimal program.constant)
+
+-- the text is that of the input: its gas below 2 ^ 32, its argument below P, both without a leading zero
+pub record IsInput (text : List ℕ) (input : Input) : Type 0 where
+  pub gas_below : input.gas < 2 ^ 32
+  pub argument_below : input.argument < modulus
+  pub text_is : text ≡ input_text (decimal input.gas) (decimal input.argument)

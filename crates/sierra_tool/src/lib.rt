@@ -1,0 +1,6 @@
+//! The tool, from the words of its command to the bytes that it writes.
+#![tactic(auto)]
+
+pub mod input;
+pub mod program;
+mod scan;

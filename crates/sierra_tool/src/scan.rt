@@ -1,0 +1,35 @@
+//! Taking a text apart from its front.
+
+ghost use Rattle.std.specs.Prelude.{◌≡◌, ◌≢◌, ◌++◌, ℕ, List, MatchOption};
+ghost use Rattle.sierra_tool.specs.Scan.{IsAllDigits, StartsWithNoDigit};
+
+/// What follows `front`, where the text begins with it.
+pub fn after<'a>(text: &'a [u8], front: &[u8]) -> Option<&'a [u8]>
+    ensures { MatchOption result
+        ((rest : List ℕ) → text.now ≢ front.now ++ rest)
+        (λ rest. text.now ≡ front.now ++ rest.now) }
+{
+    text.strip_prefix(front)
+}
+
+/// The digits at the text's front, and what follows them.
+pub fn digits(text: &[u8]) -> (&[u8], &[u8])
+    ensures parts { text.now ≡ result.0.now ++ result.1.now }
+    ensures digits { IsAllDigits result.0.now }
+    ensures rest { StartsWithNoDigit result.1.now }
+{
+    let count = text.iter().take_while(|byte| byte.is_ascii_digit()).count();
+    text.split_at(count)
+}
+
+/// What follows `front` and then `digits`, where the text begins with these two.
+pub fn after_both<'a>(text: &'a [u8], front: &[u8], digits: &[u8]) -> Option<&'a [u8]>
+    ensures { MatchOption result
+        ((rest : List ℕ) → text.now ≢ front.now ++ (digits.now ++ rest))
+        (λ rest. text.now ≡ front.now ++ (digits.now ++ rest.now)) }
+{
+    match after(text, front) {
+        Some(rest) => after(rest, digits),
+        None => None,
+    }
+}
