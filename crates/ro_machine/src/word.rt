@@ -1,0 +1,146 @@
+//! The instruction word: its offsets and flags (Cairo whitepaper, section 4.4).
+
+ghost use Rattle.std.specs.Prelude.{◌≡◌};
+ghost use Rattle.ro_machine.specs.Word.{flags_of, word_of, Word};
+
+use felt64::Felt;
+
+/// Where op1 is read.
+#[derive(Clone, Copy, Debug, PartialEq, Eq)]
+pub enum Op1 {
+    /// At the word of op0.
+    Op0,
+    /// Beside the instruction, at pc.
+    Imm,
+    /// In the frame, at fp.
+    Fp,
+    /// At the allocation pointer.
+    Ap,
+}
+
+/// What the operands give.
+#[derive(Clone, Copy, Debug, PartialEq, Eq)]
+pub enum ResKind {
+    /// op1 alone.
+    Op1,
+    /// The sum of op0 and op1.
+    Add,
+    /// The product of op0 and op1.
+    Mul,
+}
+
+/// Where pc goes.
+#[derive(Clone, Copy, Debug, PartialEq, Eq)]
+pub enum PcKind {
+    /// Behind the instruction.
+    Next,
+    /// To res.
+    Abs,
+    /// By res.
+    Rel,
+    /// By op1 where dst isn't 0, and else behind the instruction.
+    Jnz,
+}
+
+/// What ap does beside a call.
+#[derive(Clone, Copy, Debug, PartialEq, Eq)]
+pub enum ApKind {
+    /// It stays.
+    Keep,
+    /// It moves by res.
+    Add,
+    /// It moves by one.
+    Inc,
+}
+
+/// What the instruction asserts, and what it does to fp.
+#[derive(Clone, Copy, Debug, PartialEq, Eq)]
+pub enum Opcode {
+    /// Nothing.
+    Nop,
+    /// Writes fp and the return pc, and opens a frame.
+    Call,
+    /// Goes back to the caller's frame.
+    Ret,
+    /// Says that dst is res.
+    AssertEq,
+}
+
+/// An instruction word taken apart. Offsets are in cells.
+#[derive(Clone, Copy, Debug, PartialEq, Eq)]
+pub struct Flags {
+    /// From ap, or from fp under `dst_fp`, to dst.
+    pub off_dst: i16,
+    /// From ap, or from fp under `op0_fp`, to op0.
+    pub off_op0: i16,
+    /// From the base that `op1` names to op1.
+    pub off_op1: i16,
+    /// dst lies in the frame.
+    pub dst_fp: bool,
+    /// op0 lies in the frame.
+    pub op0_fp: bool,
+    /// The base of op1.
+    pub op1: Op1,
+    /// What the operands give.
+    pub res: ResKind,
+    /// Where pc goes.
+    pub pc: PcKind,
+    /// What ap does.
+    pub ap: ApKind,
+    /// What is asserted.
+    pub opcode: Opcode,
+}
+
+/// `call rel` with the distance in the next cell.
+const CALL_REL: u64 = 0x1104800180018000;
+
+/// `[ap + 0] = [fp + -3] + imm, ap++` with the immediate in the next cell.
+const ADD_IMMEDIATE: u64 = 0x482680017ffd8000;
+
+/// `ret`.
+const RET: u64 = 0x208b7fff7fff7ffe;
+
+/// The flags of a word, where it stands for an instruction.
+pub fn decode(word: Felt) -> Option<Flags>
+    ensures { result ≡ flags_of word }
+{
+    match word.value() {
+        CALL_REL => Some(Flags {
+            off_dst: 0,
+            off_op0: 1,
+            off_op1: 1,
+            dst_fp: false,
+            op0_fp: false,
+            op1: Op1::Imm,
+            res: ResKind::Op1,
+            pc: PcKind::Rel,
+            ap: ApKind::Keep,
+            opcode: Opcode::Call,
+        }),
+        ADD_IMMEDIATE => Some(Flags {
+            off_dst: 0,
+            off_op0: -3,
+            off_op1: 1,
+            dst_fp: false,
+            op0_fp: true,
+            op1: Op1::Imm,
+            res: ResKind::Add,
+            pc: PcKind::Next,
+            ap: ApKind::Inc,
+            opcode: Opcode::AssertEq,
+        }),
+        RET => Some(Flags {
+            off_dst: -2,
+            off_op0: -1,
+            off_op1: -1,
+            dst_fp: true,
+            op0_fp: true,
+            op1: Op1::Fp,
+            res: ResKind::Op1,
+            pc: PcKind::Abs,
+            ap: ApKind::Keep,
+            opcode: Opcode::Ret,
+        }),
+        _ => None,
+    }
+}
