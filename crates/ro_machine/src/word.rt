@@ -1,6 +1,6 @@
 //! The instruction word: its offsets and flags (Cairo whitepaper, section 4.4).
 
-ghost use Rattle.std.specs.Prelude.{◌≡◌};
+ghost use Rattle.std.specs.Prelude.{◌≡◌, ℕ};
 ghost use Rattle.ro_machine.specs.Word.{flags_of, word_of, Word};
 
 use felt64::Felt;
@@ -144,3 +144,8 @@ pub fn decode(word: Felt) -> Option<Flags>
         _ => None,
     }
 }
+
+/// Each word of the table is the sum of its biased offsets and its flags.
+pub fn word_sums()
+    ensures { (flags : Flags) (word : ℕ) → Word flags word → word_of flags ≡ word }
+{}
