@@ -1,2 +1,5 @@
+pub mod Accepted
 pub mod Forms
+pub mod Meaning
 pub mod Scan
+pub mod Values

@@ -4,3 +4,5 @@
 pub mod input;
 pub mod program;
 mod scan;
+pub mod theorem;
+pub mod verdict;

@@ -1,0 +1,4 @@
+pub mod Cells
+pub mod Step
+pub mod Stepping
+pub mod Word

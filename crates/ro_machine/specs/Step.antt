@@ -1,0 +1,147 @@
+-- A step of the machine, from one state to the next over cells that are fixed. All sums are in the field.
+use Rattle.std.specs.Prelude.{◌≡◌, ◌≢◌, ◌⊎◌, ℕ, suc, ℤ, pos, negsuc, Option, Some, None, if◌then◌else◌, ◌==◌}
+use Rattle.felt64.specs.Field.{sum, difference, product}
+use Rattle.ro_machine.specs.declared.word.Op1.{Op1}
+use Rattle.ro_machine.specs.declared.word.Op1.TheVariants as op1
+use Rattle.ro_machine.specs.declared.word.ResKind.{ResKind}
+use Rattle.ro_machine.specs.declared.word.ResKind.TheVariants as res
+use Rattle.ro_machine.specs.declared.word.PcKind.{PcKind}
+use Rattle.ro_machine.specs.declared.word.PcKind.TheVariants as pc
+use Rattle.ro_machine.specs.declared.word.ApKind.{ApKind}
+use Rattle.ro_machine.specs.declared.word.ApKind.TheVariants as ap
+use Rattle.ro_machine.specs.declared.word.Opcode.{Opcode}
+use Rattle.ro_machine.specs.declared.word.Opcode.TheVariants as opcode
+use Rattle.ro_machine.specs.declared.word.Flags.{Flags}
+use Rattle.ro_machine.specs.declared.machine.State.{State}
+use Rattle.ro_machine.specs.declared.machine.StepFault.{StepFault}
+use Rattle.ro_machine.specs.declared.machine.StepFault.TheVariants.{CellMissing, BadWord, AssertFails, CallFails}
+use Rattle.ro_machine.specs.Word.{Word, flags_of}
+
+-- the address that lies an offset from a base
+abbrev pub moved : ℕ → ℤ → ℕ
+moved base (pos n) = sum base n
+moved base (negsuc n) = difference base (suc n)
+
+-- dst and op0 lie an offset from fp, or from ap
+abbrev pub dst_address : Flags → State → ℕ
+dst_address f s = moved (if f.dst_fp then s.fp else s.ap) f.off_dst
+
+abbrev pub op0_address : Flags → State → ℕ
+op0_address f s = moved (if f.op0_fp then s.fp else s.ap) f.off_op0
+
+-- op1 lies an offset from the word of op0, from pc, from fp or from ap
+abbrev pub op1_base : Op1 → State → ℕ → ℕ
+op1_base op1.Op0 s op0 = op0
+op1_base op1.Imm s op0 = s.pc
+op1_base op1.Fp s op0 = s.fp
+op1_base op1.Ap s op0 = s.ap
+
+abbrev pub op1_address : Flags → State → ℕ → ℕ
+op1_address f s op0 = moved (op1_base f.op1 s op0) f.off_op1
+
+-- an instruction with an immediate takes two cells
+abbrev pub size_of : Op1 → ℕ
+size_of op1.Op0 = 1
+size_of op1.Imm = 2
+size_of op1.Fp = 1
+size_of op1.Ap = 1
+
+abbrev pub res_of : ResKind → ℕ → ℕ → ℕ
+res_of res.Op1 op0 op1 = op1
+res_of res.Add op0 op1 = sum op0 op1
+res_of res.Mul op0 op1 = product op0 op1
+
+-- the place behind the instruction
+abbrev pub behind : Flags → State → ℕ
+behind f s = sum s.pc (size_of f.op1)
+
+abbrev pub pc_after : PcKind → ℕ → ℕ → ℕ → ℕ → ℕ → ℕ
+pc_after pc.Next next s_pc op1 dst res = next
+pc_after pc.Abs next s_pc op1 dst res = res
+pc_after pc.Rel next s_pc op1 dst res = sum s_pc res
+pc_after pc.Jnz next s_pc op1 dst res = if dst == 0 then next else sum s_pc op1
+
+abbrev pub ap_after : Opcode → ApKind → ℕ → ℕ → ℕ
+ap_after opcode.Call kind s_ap res = sum s_ap 2
+ap_after op ap.Keep s_ap res = s_ap
+ap_after op ap.Add s_ap res = sum s_ap res
+ap_after op ap.Inc s_ap res = sum s_ap 1
+
+abbrev pub fp_after : Opcode → State → ℕ → ℕ
+fp_after opcode.Nop s dst = s.fp
+fp_after opcode.Call s dst = sum s.ap 2
+fp_after opcode.Ret s dst = dst
+fp_after opcode.AssertEq s dst = s.fp
+
+-- the words that a step reads, in the order in which it reads them, all four of them used or not
+pub record Operands (cells : ℕ → Option ℕ) (f : Flags) (s : State) (op0 op1 dst : ℕ) : Type 0 where
+  pub op0_is : cells (op0_address f s) ≡ Some op0
+  pub op1_is : cells (op1_address f s op0) ≡ Some op1
+  pub dst_is : cells (dst_address f s) ≡ Some dst
+
+-- what the opcode asserts
+abbrev pub Asserts : Opcode → Flags → State → ℕ → ℕ → ℕ → Type 0
+Asserts opcode.Nop f s op0 op1 dst = Unit {0}
+Asserts opcode.Call f s op0 op1 dst = (dst ≡ s.fp) × (op0 ≡ behind f s)
+Asserts opcode.Ret f s op0 op1 dst = Unit {0}
+Asserts opcode.AssertEq f s op0 op1 dst = dst ≡ res_of f.res op0 op1
+
+abbrev pub next_state : Flags → State → ℕ → ℕ → ℕ → State
+next_state f s op0 op1 dst =
+    let res = res_of f.res op0 op1 in
+    record {
+      pc = pc_after f.pc (behind f s) s.pc op1 dst res;
+      ap = ap_after f.opcode f.ap s.ap res;
+      fp = fp_after f.opcode s dst;
+    }
+
+-- the machine steps from s to t
+pub record Step (cells : ℕ → Option ℕ) (s t : State) : Type 0 where
+  pub word : ℕ
+  pub word_is : cells s.pc ≡ Some word
+  pub flags : Flags
+  pub decodes : Word flags word
+  pub op0 : ℕ
+  pub op1 : ℕ
+  pub dst : ℕ
+  pub reads : Operands cells flags s op0 op1 dst
+  pub asserts : Asserts flags.opcode flags s op0 op1 dst
+  pub next : t ≡ next_state flags s op0 op1 dst
+
+-- the word at pc stands for these flags
+abbrev pub Fetches : (ℕ → Option ℕ) → State → Flags → Type 0
+Fetches cells s f = (word : ℕ) × (cells s.pc ≡ Some word) × Word f word
+
+-- no word is listed at this address
+abbrev pub IsUnlisted : (ℕ → Option ℕ) → ℕ → Type 0
+IsUnlisted cells at = cells at ≡ None
+
+-- the first cell in reading order that isn't listed, behind the one at pc
+abbrev pub MissesOperand : (ℕ → Option ℕ) → Flags → State → ℕ → Type 0
+MissesOperand cells f s at =
+    ((at ≡ op0_address f s) × IsUnlisted cells at)
+    ⊎ ((op0 : ℕ) × (cells (op0_address f s) ≡ Some op0)
+    × (((at ≡ op1_address f s op0) × IsUnlisted cells at)
+    ⊎ ((op1 : ℕ) × (cells (op1_address f s op0) ≡ Some op1) × (at ≡ dst_address f s) × IsUnlisted cells at)))
+
+-- the two words that differ where dst and res are wanted equal
+abbrev pub AssertDiffers : Opcode → Flags → State → ℕ → ℕ → ℕ → ℕ → ℕ → Type 0
+AssertDiffers op f s op0 op1 dst left right = (op ≡ opcode.AssertEq) × (left ≡ dst) × (right ≡ res_of f.res op0 op1) × (left ≢ right)
+
+-- the two words that differ at a call: dst and fp, or else op0 and the return pc
+abbrev pub CallDiffers : Opcode → Flags → State → ℕ → ℕ → ℕ → ℕ → Type 0
+CallDiffers op f s op0 dst left right =
+    (op ≡ opcode.Call)
+    × (((left ≡ dst) × (right ≡ s.fp) × (left ≢ right))
+    ⊎ ((dst ≡ s.fp) × (left ≡ op0) × (right ≡ behind f s) × (left ≢ right)))
+
+-- this is the first part that fails of a step from s
+abbrev pub Stops : (ℕ → Option ℕ) → State → StepFault → Type 0
+Stops cells s (CellMissing at) = ((at ≡ s.pc) × IsUnlisted cells at) ⊎ ((f : Flags) × Fetches cells s f × MissesOperand cells f s at)
+Stops cells s (BadWord at) = (at ≡ s.pc) × ((word : ℕ) × (cells at ≡ Some word) × (flags_of word ≡ None))
+Stops cells s (AssertFails left right) =
+    (f : Flags) × (op0 : ℕ) × (op1 : ℕ) × (dst : ℕ)
+    × Fetches cells s f × Operands cells f s op0 op1 dst × AssertDiffers f.opcode f s op0 op1 dst left right
+Stops cells s (CallFails left right) =
+    (f : Flags) × (op0 : ℕ) × (op1 : ℕ) × (dst : ℕ)
+    × Fetches cells s f × Operands cells f s op0 op1 dst × CallDiffers f.opcode f s op0 dst left right

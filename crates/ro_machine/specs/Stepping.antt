@@ -1,0 +1,45 @@
+-- A step as a function of what is listed: the next state, or the first part that fails.
+use Rattle.std.specs.Prelude.{ℕ, Option, Some, None, Result, Ok, Err, if◌then◌else◌, ◌==◌}
+use Rattle.ro_machine.specs.declared.word.Opcode.{Opcode}
+use Rattle.ro_machine.specs.declared.word.Opcode.TheVariants as opcode
+use Rattle.ro_machine.specs.declared.word.Flags.{Flags}
+use Rattle.ro_machine.specs.declared.machine.State.{State}
+use Rattle.ro_machine.specs.declared.machine.StepFault.{StepFault}
+use Rattle.ro_machine.specs.declared.machine.StepFault.TheVariants.{CellMissing, BadWord, AssertFails, CallFails}
+use Rattle.ro_machine.specs.Word.{flags_of}
+use Rattle.ro_machine.specs.Step.{dst_address, op0_address, op1_address, res_of, behind, next_state}
+
+infixl 10 ◌>>=◌
+abbrev pub ◌>>=◌ : {A B : Type 0} → Result A StepFault → (A → Result B StepFault) → Result B StepFault
+(Ok x) >>= f = f x
+(Err e) >>= f = Err e
+
+abbrev pub word_or : {A : Type 0} → Option A → StepFault → Result A StepFault
+word_or None fault = Err fault
+word_or (Some x) fault = Ok x
+
+abbrev pub listed : (ℕ → Option ℕ) → ℕ → Result ℕ StepFault
+listed cells at = word_or (cells at) (CellMissing at)
+
+abbrev pub decoded : ℕ → ℕ → Result Flags StepFault
+decoded pc word = word_or (flags_of word) (BadWord pc)
+
+-- passes where the two words are equal
+abbrev pub equal_or : ℕ → ℕ → StepFault → Result (Unit {0}) StepFault
+equal_or left right fault = if left == right then Ok tt else Err fault
+
+abbrev pub asserted : Opcode → Flags → State → ℕ → ℕ → ℕ → Result (Unit {0}) StepFault
+asserted opcode.Nop f s op0 op1 dst = Ok tt
+asserted opcode.Call f s op0 op1 dst = equal_or dst s.fp (CallFails dst s.fp) >>= λ _. equal_or op0 (behind f s) (CallFails op0 (behind f s))
+asserted opcode.Ret f s op0 op1 dst = Ok tt
+asserted opcode.AssertEq f s op0 op1 dst = equal_or dst (res_of f.res op0 op1) (AssertFails dst (res_of f.res op0 op1))
+
+unfoldable pub step_of : (ℕ → Option ℕ) → State → Result State StepFault
+step_of cells s = do
+  word ← listed cells s.pc
+  flags ← decoded s.pc word
+  op0 ← listed cells (op0_address flags s)
+  op1 ← listed cells (op1_address flags s op0)
+  dst ← listed cells (dst_address flags s)
+  holds ← asserted flags.opcode flags s op0 op1 dst
+  Ok (next_state flags s op0 op1 dst)

@@ -1,0 +1,12 @@
+//! The Cairo machine with read-only memory: a step from one state to the next over cells that are fixed.
+//! What comes in is a memory and a state, what goes out is the next state or the first part that fails.
+//! The trace check and, later, the runner stand on it.
+#![tactic(auto)]
+
+pub mod machine;
+pub mod memory;
+pub mod word;
+
+pub use machine::{State, StepFault, step};
+pub use memory::{InsertFault, Memory};
+pub use word::{ApKind, Flags, Op1, Opcode, PcKind, ResKind, decode, word_parts, word_sums};
