@@ -36,10 +36,10 @@ pub fn write_all<S: Sink>(sink: &mut S, bytes: &[u8]) -> Result<(), Failed>
     ensures front { OnErr result (AppendsFront (S.written sink.old) (S.written sink.new) bytes.now) }
     ensures failed { OnErr result (Rose (S.faults sink.old) (S.faults sink.new)) }
 {
-    let mut rest = bytes;
-    while !rest.is_empty() {
-        let taken = sink.write(rest)?;
-        rest = &rest[taken..];
+    let mut done = 0;
+    while done < bytes.len() {
+        let taken = sink.write(&bytes[done..])?;
+        done += taken;
     }
     Ok(())
 }
