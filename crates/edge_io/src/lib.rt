@@ -5,5 +5,5 @@
 pub mod files;
 pub mod sinks;
 
-pub use files::{FileFault, Files};
+pub use files::{FileFault, Files, ReadFault, read_all};
 pub use sinks::{Failed, Sink, write_all};
