@@ -3,7 +3,11 @@
 #![tactic(auto)]
 
 pub mod files;
+pub mod mem_files;
+pub mod mem_sink;
 pub mod sinks;
 
 pub use files::{FileFault, Files, ReadFault, read_all};
+pub use mem_files::MemFiles;
+pub use mem_sink::MemSink;
 pub use sinks::{Failed, Sink, write_all};
