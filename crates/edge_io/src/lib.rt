@@ -1,13 +1,17 @@
-// A library with one function.
+//! Files that are read and sinks that are written, with their faults counted: the edge between the tool and the
+//! outside. The tool is generic over both, so its promises hold over every file map and every schedule of faults.
 #![tactic(auto)]
 
-ghost use Rattle.std.specs.Prelude.{◌≡◌};
-ghost use Rattle.edge_io.specs.Echo.{echo_of};
+pub mod files;
+pub mod mem_files;
+pub mod mem_sink;
+pub mod sinks;
+pub mod std_files;
+pub mod std_sink;
 
-// The `ensures` clause is the contract: what `echo` returns is `echo_of` of its argument, a definition
-// in `specs/Echo.antt`, which a caller's clause can cite too.
-pub fn echo(x: usize) -> usize
-    ensures { result ≡ echo_of x }
-{
-    x
-}
+pub use files::{FileFault, Files, ReadFault, read_all};
+pub use mem_files::MemFiles;
+pub use mem_sink::MemSink;
+pub use sinks::{Failed, Sink, write_all};
+pub use std_files::StdFiles;
+pub use std_sink::StdSink;

@@ -1,0 +1,103 @@
+//! The system's files: what comes in are paths, what goes out are reads, with their faults counted by cause. Main makes
+//! it.
+
+ghost use Rattle.std.specs.Prelude.{◌≡◌, ℕ, ◌≤◌, length, None, IfOk};
+
+use crate::files::{FileFault, Files};
+use std::io;
+use std::io::{ErrorKind, Read, Seek, SeekFrom};
+use std::rt::Files as SystemFiles;
+
+/// A file that was opened, under the name that it was opened by.
+#[derive(Drop)]
+struct Opened<F> {
+    name: String,
+    file: F,
+    /// Where the last read ended.
+    end: u64,
+}
+
+/// The system's files, with their faults and their missing names counted. The file that was read last stays open, so
+/// that one file is read through, and a pipe can be read in order.
+#[derive(Drop)]
+pub struct StdFiles<R: SystemFiles + AllocGlobal> {
+    rt: R,
+    last: Option<Opened<R::File>>,
+    faults: u64,
+    misses: u64,
+}
+
+impl<R: SystemFiles + AllocGlobal> StdFiles<R> {
+    /// Files over what the runtime gives main.
+    pub fn new(rt: R) -> StdFiles<R>
+        ensures faults { result.faults ≡ 0 }
+        ensures misses { result.misses ≡ 0 }
+    {
+        StdFiles { rt, last: None, faults: 0, misses: 0 }
+    }
+
+    /// How many reads failed. It stands still at its last value.
+    pub fn faults(&self) -> u64
+        ensures { result ≡ self.now.faults }
+    {
+        self.faults
+    }
+
+    /// How many reads named no file. It stands still at its last value.
+    pub fn misses(&self) -> u64
+        ensures { result ≡ self.now.misses }
+    {
+        self.misses
+    }
+
+    /// Opens a file for reads from the place `at` on.
+    fn open(&self, name: &str, at: u64) -> io::Result<Opened<R::File>> {
+        let mut file = std::fs::open(&self.rt, name)?;
+        if at > 0 {
+            file.seek(SeekFrom::Start(at))?;
+        }
+        Ok(Opened { name: String::from_str(self.rt.alloc(), name)?, file, end: at })
+    }
+
+    /// Reads once. A file whose last read ended where this one starts is not opened anew.
+    fn read(&mut self, name: &str, at: u64, buf: &mut [u8]) -> io::Result<usize>
+        ensures within { IfOk result (λ n. n ≤ length buf.old) }
+        ensures faults { self.new.faults ≡ self.old.faults }
+        ensures misses { self.new.misses ≡ self.old.misses }
+    {
+        let mut opened = match self.last.take() {
+            Some(last) if at > 0 && last.end == at && last.name.as_str() == name => last,
+            _ => self.open(name, at)?,
+        };
+        let count = opened.file.read(buf)?;
+        opened.end = at.saturating_add(count as u64);
+        self.last = Some(opened);
+        Ok(count)
+    }
+}
+
+impl<R: SystemFiles + AllocGlobal> Files for StdFiles<R> {
+    ghost contents = { λ _. None };
+
+    ghost faults = { λ s. s.faults };
+
+    ghost misses = { λ s. s.misses };
+
+    /// A path that leads through a file to nowhere is missing, as one that is not there. Any other error, of a directory
+    /// or of want of memory for the name too, has failed.
+    fn read_at(&mut self, name: &str, at: u64, buf: &mut [u8]) -> Result<usize, FileFault> {
+        match self.read(name, at, buf) {
+            Ok(count) => Ok(count),
+            Err(error) => match error.kind() {
+                ErrorKind::NotFound | ErrorKind::NotADirectory => {
+                    self.misses = self.misses.saturating_add(1);
+                    Err(FileFault::Missing)
+                }
+                _ => {
+                    self.faults = self.faults.saturating_add(1);
+                    Err(FileFault::Failed)
+                }
+            },
+        }
+    }
+}
