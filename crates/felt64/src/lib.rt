@@ -1,10 +1,18 @@
 //! Arithmetic in the field of `P = 2^64 - 2^32 + 1`, over which Cairo words, addresses and registers are numbers.
+//!
+//! The Cairo whitepaper's machine computes in a prime field; this prime is the project's own choice. Numbers and
+//! decimal texts come in, and numbers below `P` go out. Every layer above stands on this one: the words of a program,
+//! the machine that runs it, and the readers and writers of its files.
 #![tactic(auto)]
 
-ghost use Rattle.std.specs.Prelude.{◌≡◌, ◌<◌, ◌≤◌, ◌↔◌, ◌*◌, ◌+◌, ◌/◌, ◌%◌, ◌^◌, IfOk, IsErrOf, OnErr, decimal};
+ghost use Rattle.std.specs.Prelude.{◌≡◌, ◌<◌, ◌≤◌, ◌↔◌, ◌*◌, ◌+◌, ◌/◌, ◌%◌, ◌^◌, ℕ, IfOk, IsErrOf, OnErr, Some, decimal};
 ghost use Rattle.std.specs.Option.{SomeIff};
-ghost use Rattle.felt64.specs.Field.{modulus, sum, difference, product, negative, IsNotDigits};
+ghost use Rattle.felt64.specs.Field.{modulus, sum, difference, product, negative};
+ghost use Rattle.felt64.specs.Decimal.{decimal_text, IsNotDigits};
 
+mod decimal;
+
+use std::fmt;
 use std::marker::Model;
 use thiserror::Error;
 
@@ -53,12 +61,48 @@ impl Felt {
         }
     }
 
+    /// The number that a decimal text writes, such as a word in a program's file.
+    ///
+    /// No sign, no space and no leading zero is taken, and a text may be of any length.
+    pub fn read_decimal(text: &[u8]) -> Result<Felt, NumFault>
+        ensures found { IfOk result (λ n. text.now ≡ decimal n) }
+        ensures reads { (n : ℕ) → n < modulus → text.now ≡ decimal n → result ≡ Ok n }
+        ensures below { IfOk result (λ n. n < modulus) }
+
+        ensures not_digits { IsErrOf result NumFault.NotDigits ↔ IsNotDigits text.now }
+        ensures too_large { IsErrOf result NumFault.TooLarge ↔ ((n : ℕ) × (modulus ≤ n) × (text.now ≡ decimal_text n)) }
+    {
+        if !decimal::is_decimal(text) {
+            return Err(NumFault::NotDigits);
+        }
+        match decimal::value_below_modulus(text) {
+            Some(value) => Ok(Felt { value }),
+            None => Err(NumFault::TooLarge),
+        }
+    }
+
     /// The number's remainder by the field's order.
+    ///
+    /// In the field `2^64` is `2^32 - 1` and `2^96` is `-1`, so no division is needed.
     pub fn reduce(n: u128) -> Felt
         ensures { result ≡ n % modulus }
     {
+        let low = (n & 0xffff_ffff_ffff_ffff) as u64;
+        let middle = ((n >> 64) & 0xffff_ffff) as u64;
+        let high = (n >> 96) as u64;
+        Felt::below_two_orders(low)
+            .sub(Felt { value: high })
+            .add(Felt {
+                value: (middle << 32) - middle,
+            })
+    }
+
+    /// The remainder of a number that is below twice the field's order, as each `u64` is.
+    fn below_two_orders(n: u64) -> Felt
+        ensures { result ≡ n % modulus }
+    {
         Felt {
-            value: (n % MODULUS as u128) as u64,
+            value: if n < MODULUS { n } else { n - MODULUS },
         }
     }
 
@@ -82,14 +126,28 @@ impl Felt {
     pub fn add(self, o: Felt) -> Felt
         ensures { result ≡ sum self o }
     {
-        Felt::reduce(self.value as u128 + o.value as u128)
+        // What `self` lacks to the order once `o` is added: no sum here can overflow.
+        let gap = MODULUS - o.value;
+        Felt {
+            value: if self.value < gap {
+                self.value + o.value
+            } else {
+                self.value - gap
+            },
+        }
     }
 
     /// The difference in the field.
     pub fn sub(self, o: Felt) -> Felt
         ensures { result ≡ difference self o }
     {
-        Felt::reduce(self.value as u128 + (MODULUS - o.value) as u128)
+        Felt {
+            value: if self.value < o.value {
+                self.value + (MODULUS - o.value)
+            } else {
+                self.value - o.value
+            },
+        }
     }
 
     /// The product in the field.
@@ -103,7 +161,13 @@ impl Felt {
     pub fn neg(self) -> Felt
         ensures { result ≡ negative self }
     {
-        Felt::reduce((MODULUS - self.value) as u128)
+        Felt {
+            value: if self.value == 0 {
+                0
+            } else {
+                MODULUS - self.value
+            },
+        }
     }
 }
 
@@ -112,5 +176,14 @@ impl From<u32> for Felt {
 
     fn from(n: u32) -> Felt {
         Felt { value: n as u64 }
+    }
+}
+
+impl fmt::Display for Felt {
+    ghost output = { λ a. Some (decimal a) };
+
+    fn fmt<W: fmt::Write>(&self, f: &mut fmt::Formatter<W>) -> fmt::Result {
+        let value = self.value;
+        write!(f, "{value}")
     }
 }
