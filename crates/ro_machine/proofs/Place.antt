@@ -1,9 +1,9 @@
 -- What a search finds among cells that rise, and what a new cell in a gap does.
-use Rattle.std.proofs.Common.{◌≡◌, ℕ, zero, suc, ◌+◌, ◌-◌, ◌<◌, ◌≤◌, ◌≢◌, List, [], ◌∷◌, length, get_or, cond, true, false, is_some, Some, None, Option, IfSome, IfNone, Result, Ok, Err, IfOk, IfErr, Bor, ◌⊎◌, inl, inr, refl, sym, ap, subst, ◌∙◌, arith}
+use Rattle.std.proofs.Common.{◌≡◌, ℕ, zero, suc, ◌+◌, ◌-◌, ◌<◌, ◌≤◌, ◌≢◌, List, [], ◌∷◌, length, get_or, cond, Some, None, Option, IfSome, IfNone, Result, Ok, Err, IfOk, IfErr, Bor, ◌⊎◌, inl, inr, refl, sym, ap, subst, ◌∙◌, arith}
 use Rattle.std.specs.List.{insert, slice_get}
 use Rattle.std.specs.List.Sorted.{IsSearchInRange, IsBinarySearchResult, IsNonDecreasingBy}
 use Rattle.std.specs.Ordering.{nat_cmp, ordering_index, eq_by_cmp}
-use Rattle.std.specs.FinMap.{FinMap, find, get, len, from_entries, get-from_entries, get-insert, len-insert, len-empty, same_map, nat_cmp-IsAntisymmetric} 
+use Rattle.std.specs.FinMap.{find, get, len, from_entries, get-from_entries, get-insert, len-insert, len-empty, same_map, nat_cmp-IsAntisymmetric}
 use Rattle.std.specs.FinMap as map
 use Rattle.std.specs.Cmp.{nat_cmp_total}
 use Rattle.std.proofs.lemmas.Cmp.{ranked}
@@ -151,18 +151,18 @@ module _ (l : Listing) (rising : IsRising l) (k at : ℕ) where
       at_or_above = from.after at (omega arith) in_range;
       is_listed = get_at l rising _ at (record { in_range = in_range; has_address = refl });
       none_before = λ b le lt. get_in_gap l b at (record {
-          in_range = from.at_most;
-          smaller_before = λ j below. omega (arith, from.before j below);
-          greater_after = λ j above inside. grind (arith, rising at j, λ (same : j ≡ at). ap (address_at l) same);
-        });
+        in_range = from.at_most;
+        smaller_before = λ j below. omega (arith, from.before j below);
+        greater_after = λ j above inside. grind (arith, rising at j, λ (same : j ≡ at). ap (address_at l) same);
+      });
     }
 
     is_none : length l ≤ at → NoneFrom (from_entries l) k
     is_none past b le = get_in_gap l b at (record {
-        in_range = from.at_most;
-        smaller_before = λ j below. omega (arith, from.before j below);
-        greater_after = λ j above inside. absurd (omega arith);
-      })
+      in_range = from.at_most;
+      smaller_before = λ j below. omega (arith, from.before j below);
+      greater_after = λ j above inside. absurd (omega arith);
+    })
 
   -- the cell there, if there is one, is the first from k on
   pub first_from : (IsAt l k at) ⊎ (IsGapFor l k at) → (m : Cells) → from_entries l ≡ m → (r : Option (ℕ × ℕ)) → r ≡ slice_get l at → record { first : IfSome r (IsFirstFrom m k); none : IfNone r (NoneFrom m k) }

@@ -1,5 +1,5 @@
 -- The step as a function gives the next state exactly where the machine steps, and a fault exactly where it stops.
-use Rattle.std.proofs.Common.{◌≡◌, ◌≢◌, ◌⊎◌, ℕ, Bool, true, false, Option, Some, None, Result, Ok, Err, IfErr, if◌then◌else◌, ◌==◌, refl, sym, ap, ◌∙◌, inl, inr, arith}
+use Rattle.std.proofs.Common.{◌≡◌, ◌≢◌, ◌⊎◌, ◌↔◌, ℕ, Option, Some, None, Result, Ok, Err, IfErr, refl, sym, ap, subst, ◌∙◌, inl, inr, arith}
 use Rattle.std.proofs.lemmas.Bool.Decides.{nat_tests}
 use Rattle.ro_machine.specs.declared.word.Opcode.{Opcode}
 use Rattle.ro_machine.specs.declared.word.Opcode.TheVariants as opcode
@@ -53,3 +53,235 @@ equal_or_same left right fault same = grind (arith, nat_tests)
 
 equal_or_differs : (left right : ℕ) (fault : StepFault) → left ≢ right → equal_or left right fault ≡ Err fault
 equal_or_differs left right fault differs = grind (arith, nat_tests)
+
+-- the asserts pass exactly where they hold
+asserted_ok : (op : Opcode) (f : Flags) (s : State) (op0 op1 dst : ℕ) → asserted op f s op0 op1 dst ≡ Ok tt → Asserts op f s op0 op1 dst
+asserted_ok opcode.Nop f s op0 op1 dst is = tt
+asserted_ok opcode.Call f s op0 op1 dst is =
+    let first = bind_ok (equal_or dst s.fp (CallFails dst s.fp)) (λ _. equal_or op0 (behind f s) (CallFails op0 (behind f s))) tt is in
+    (equal_or_ok dst s.fp (CallFails dst s.fp) first.1, equal_or_ok op0 (behind f s) (CallFails op0 (behind f s)) first.2)
+asserted_ok opcode.Ret f s op0 op1 dst is = tt
+asserted_ok opcode.AssertEq f s op0 op1 dst is = equal_or_ok dst (res_of f.res op0 op1) (AssertFails dst (res_of f.res op0 op1)) is
+
+asserted_holds : (op : Opcode) (f : Flags) (s : State) (op0 op1 dst : ℕ) → Asserts op f s op0 op1 dst → asserted op f s op0 op1 dst ≡ Ok tt
+asserted_holds opcode.Nop f s op0 op1 dst holds = refl
+asserted_holds opcode.Call f s op0 op1 dst holds =
+    after_ok (equal_or dst s.fp (CallFails dst s.fp)) (λ _. equal_or op0 (behind f s) (CallFails op0 (behind f s))) tt (equal_or_same dst s.fp (CallFails dst s.fp) holds.0)
+    ∙ equal_or_same op0 (behind f s) (CallFails op0 (behind f s)) holds.1
+asserted_holds opcode.Ret f s op0 op1 dst holds = refl
+asserted_holds opcode.AssertEq f s op0 op1 dst holds = equal_or_same dst (res_of f.res op0 op1) (AssertFails dst (res_of f.res op0 op1)) holds
+
+-- what a fault of the asserts says
+abbrev FailsBy : Opcode → Flags → State → ℕ → ℕ → ℕ → StepFault → Type 0
+FailsBy op f s op0 op1 dst (CellMissing at) = ⊥
+FailsBy op f s op0 op1 dst (BadWord at) = ⊥
+FailsBy op f s op0 op1 dst (AssertFails left right) = AssertDiffers op f s op0 op1 dst left right
+FailsBy op f s op0 op1 dst (CallFails left right) = CallDiffers op f s op0 dst left right
+
+asserted_err : (op : Opcode) (f : Flags) (s : State) (op0 op1 dst : ℕ) (fault : StepFault) → asserted op f s op0 op1 dst ≡ Err fault → FailsBy op f s op0 op1 dst fault
+asserted_err opcode.Nop f s op0 op1 dst fault is = cc
+asserted_err opcode.Call f s op0 op1 dst fault is =
+    elim (bind_err (equal_or dst s.fp (CallFails dst s.fp)) (λ _. equal_or op0 (behind f s) (CallFails op0 (behind f s))) fault is) [
+      | inl first ↦ let differs = equal_or_err dst s.fp (CallFails dst s.fp) fault first in
+          subst (FailsBy opcode.Call f s op0 op1 dst) (sym differs.1) (refl, inl (refl, refl, differs.0))
+      | inr second ↦ let differs = equal_or_err op0 (behind f s) (CallFails op0 (behind f s)) fault second.2 in
+          subst (FailsBy opcode.Call f s op0 op1 dst) (sym differs.1) (refl, inr (equal_or_ok dst s.fp (CallFails dst s.fp) second.1, refl, refl, differs.0))
+    ]
+asserted_err opcode.Ret f s op0 op1 dst fault is = cc
+asserted_err opcode.AssertEq f s op0 op1 dst fault is =
+    let differs = equal_or_err dst (res_of f.res op0 op1) (AssertFails dst (res_of f.res op0 op1)) fault is in
+    subst (FailsBy opcode.AssertEq f s op0 op1 dst) (sym differs.1) (refl, refl, refl, differs.0)
+
+asserted_fails : (op : Opcode) (f : Flags) (s : State) (op0 op1 dst : ℕ) (fault : StepFault) → FailsBy op f s op0 op1 dst fault → asserted op f s op0 op1 dst ≡ Err fault
+asserted_fails op f s op0 op1 dst (CellMissing at) fails = absurd fails
+asserted_fails op f s op0 op1 dst (BadWord at) fails = absurd fails
+asserted_fails op f s op0 op1 dst (AssertFails left right) fails =
+    let res = res_of f.res op0 op1 in
+    rw fails.0 (equal_or_differs dst res (AssertFails dst res) (λ same. fails.3 (fails.1 ∙ same ∙ sym fails.2)) ∙ rw (fails.1, fails.2) refl)
+asserted_fails op f s op0 op1 dst (CallFails left right) fails =
+    let saves = equal_or dst s.fp (CallFails dst s.fp) in
+    let returns = equal_or op0 (behind f s) (CallFails op0 (behind f s)) in
+    rw fails.0 (elim fails.1 [
+      | inl first ↦ after_err saves (λ _. returns) (CallFails left right) (equal_or_differs dst s.fp (CallFails dst s.fp) (λ same. first.2 (first.0 ∙ same ∙ sym first.1)) ∙ rw (first.0, first.1) refl)
+      | inr second ↦ after_ok saves (λ _. returns) tt (equal_or_same dst s.fp (CallFails dst s.fp) second.0)
+          ∙ equal_or_differs op0 (behind f s) (CallFails op0 (behind f s)) (λ same. second.3 (second.1 ∙ same ∙ sym second.2)) ∙ rw (second.1, second.2) refl
+    ])
+
+module _ (cells : ℕ → Option ℕ) (s : State) where
+  -- what is left of a step at each part that passes
+  abbrev after_dst : Flags → ℕ → ℕ → ℕ → Result State StepFault
+  after_dst f op0 op1 dst = asserted f.opcode f s op0 op1 dst >>= λ holds. Ok (next_state f s op0 op1 dst)
+
+  abbrev after_op1 : Flags → ℕ → ℕ → Result State StepFault
+  after_op1 f op0 op1 = listed cells (dst_address f s) >>= after_dst f op0 op1
+
+  abbrev after_op0 : Flags → ℕ → Result State StepFault
+  after_op0 f op0 = listed cells (op1_address f s op0) >>= after_op1 f op0
+
+  abbrev after_flags : Flags → Result State StepFault
+  after_flags f = listed cells (op0_address f s) >>= after_op0 f
+
+  abbrev after_word : ℕ → Result State StepFault
+  after_word word = decoded s.pc word >>= after_flags
+
+  step_of-parts : step_of cells s ≡ (listed cells s.pc >>= after_word)
+  unfolding step_of
+  step_of-parts = refl
+
+  pub step_from : (t : State) → step_of cells s ≡ Ok t → Step cells s t
+  step_from t is =
+      let a = bind_ok (listed cells s.pc) after_word t (sym step_of-parts ∙ is) in
+      let b = bind_ok (decoded s.pc a.0) after_flags t a.2 in
+      let c = bind_ok (listed cells (op0_address b.0 s)) (after_op0 b.0) t b.2 in
+      let d = bind_ok (listed cells (op1_address b.0 s c.0)) (after_op1 b.0 c.0) t c.2 in
+      let e = bind_ok (listed cells (dst_address b.0 s)) (after_dst b.0 c.0 d.0) t d.2 in
+      let g = bind_ok (asserted b.0.opcode b.0 s c.0 d.0 e.0) (λ holds. Ok (next_state b.0 s c.0 d.0 e.0)) t e.2 in
+      record {
+        word = a.0;
+        word_is = word_or_ok (cells s.pc) (CellMissing s.pc) a.0 a.1;
+        flags = b.0;
+        decodes = word_or_ok (flags_of a.0) (BadWord s.pc) b.0 b.1;
+        op0 = c.0;
+        op1 = d.0;
+        dst = e.0;
+        reads = record {
+          op0_is = word_or_ok (cells (op0_address b.0 s)) (CellMissing (op0_address b.0 s)) c.0 c.1;
+          op1_is = word_or_ok (cells (op1_address b.0 s c.0)) (CellMissing (op1_address b.0 s c.0)) d.0 d.1;
+          dst_is = word_or_ok (cells (dst_address b.0 s)) (CellMissing (dst_address b.0 s)) e.0 e.1;
+        };
+        asserts = asserted_ok b.0.opcode b.0 s c.0 d.0 e.0 g.1;
+        next = let same : ◌≡◌ {A = Result State StepFault} (Ok (next_state b.0 s c.0 d.0 e.0)) (Ok t) = g.2 in cc;
+      }
+
+  -- the step up to each part, from what passes before it
+  module _ (word : ℕ) (word_is : cells s.pc ≡ Some word) where
+    up_to_word : step_of cells s ≡ after_word word
+    up_to_word = step_of-parts ∙ after_ok (listed cells s.pc) after_word word (word_or_some (cells s.pc) (CellMissing s.pc) word word_is)
+
+    module _ (f : Flags) (decodes : Word f word) where
+      up_to_flags : step_of cells s ≡ after_flags f
+      up_to_flags = up_to_word ∙ after_ok (decoded s.pc word) after_flags f (word_or_some (flags_of word) (BadWord s.pc) f decodes)
+
+      module _ (op0 : ℕ) (op0_is : cells (op0_address f s) ≡ Some op0) where
+        up_to_op0 : step_of cells s ≡ after_op0 f op0
+        up_to_op0 = up_to_flags ∙ after_ok (listed cells (op0_address f s)) (after_op0 f) op0 (word_or_some (cells (op0_address f s)) (CellMissing (op0_address f s)) op0 op0_is)
+
+        module _ (op1 : ℕ) (op1_is : cells (op1_address f s op0) ≡ Some op1) where
+          up_to_op1 : step_of cells s ≡ after_op1 f op0 op1
+          up_to_op1 = up_to_op0 ∙ after_ok (listed cells (op1_address f s op0)) (after_op1 f op0) op1 (word_or_some (cells (op1_address f s op0)) (CellMissing (op1_address f s op0)) op1 op1_is)
+
+          module _ (dst : ℕ) (dst_is : cells (dst_address f s) ≡ Some dst) where
+            up_to_dst : step_of cells s ≡ after_dst f op0 op1 dst
+            up_to_dst = up_to_op1 ∙ after_ok (listed cells (dst_address f s)) (after_dst f op0 op1) dst (word_or_some (cells (dst_address f s)) (CellMissing (dst_address f s)) dst dst_is)
+
+  up_to_operands : (f : Flags) → Fetches cells s f → (op0 op1 dst : ℕ) → Operands cells f s op0 op1 dst → step_of cells s ≡ after_dst f op0 op1 dst
+  up_to_operands f fetched op0 op1 dst reads = up_to_dst fetched.0 fetched.1 f fetched.2 op0 reads.op0_is op1 reads.op1_is dst reads.dst_is
+
+  pub from_step : (t : State) → Step cells s t → step_of cells s ≡ Ok t
+  from_step t step =
+      up_to_operands step.flags (step.word, step.word_is, step.decodes) step.op0 step.op1 step.dst step.reads
+      ∙ after_ok (asserted step.flags.opcode step.flags s step.op0 step.op1 step.dst) (λ holds. Ok (next_state step.flags s step.op0 step.op1 step.dst)) tt (asserted_holds step.flags.opcode step.flags s step.op0 step.op1 step.dst step.asserts)
+      ∙ ap Ok (sym step.next)
+
+  fails_stop : (f : Flags) → Fetches cells s f → (op0 op1 dst : ℕ) → Operands cells f s op0 op1 dst → (fault : StepFault) → FailsBy f.opcode f s op0 op1 dst fault → Stops cells s fault
+  fails_stop f fetched op0 op1 dst reads (CellMissing at) fails = absurd fails
+  fails_stop f fetched op0 op1 dst reads (BadWord at) fails = absurd fails
+  fails_stop f fetched op0 op1 dst reads (AssertFails left right) fails = (f, op0, op1, dst, fetched, reads, fails)
+  fails_stop f fetched op0 op1 dst reads (CallFails left right) fails = (f, op0, op1, dst, fetched, reads, fails)
+
+  -- the operands are read in turn, and the asserts come last
+  stops_after_flags : (f : Flags) → Fetches cells s f → (fault : StepFault) → after_flags f ≡ Err fault → Stops cells s fault
+  stops_after_flags f fetched fault is =
+      let misses : (at : ℕ) → fault ≡ CellMissing at → MissesOperand cells f s at → Stops cells s fault = λ at named missing. subst (Stops cells s) (sym named) (inr (f, fetched, missing)) in
+      elim (bind_err (listed cells (op0_address f s)) (after_op0 f) fault is) [
+        | inl c ↦ let m = word_or_err (cells (op0_address f s)) (CellMissing (op0_address f s)) fault c in
+            misses (op0_address f s) m.1 (inl (refl, m.0))
+        | inr c ↦
+            let op0 = c.0 in
+            let op0_is = word_or_ok (cells (op0_address f s)) (CellMissing (op0_address f s)) op0 c.1 in
+            elim (bind_err (listed cells (op1_address f s op0)) (after_op1 f op0) fault c.2) [
+              | inl d ↦ let m = word_or_err (cells (op1_address f s op0)) (CellMissing (op1_address f s op0)) fault d in
+                  misses (op1_address f s op0) m.1 (inr (op0, op0_is, inl (refl, m.0)))
+              | inr d ↦
+                  let op1 = d.0 in
+                  let op1_is = word_or_ok (cells (op1_address f s op0)) (CellMissing (op1_address f s op0)) op1 d.1 in
+                  elim (bind_err (listed cells (dst_address f s)) (after_dst f op0 op1) fault d.2) [
+                    | inl e ↦ let m = word_or_err (cells (dst_address f s)) (CellMissing (dst_address f s)) fault e in
+                        misses (dst_address f s) m.1 (inr (op0, op0_is, inr (op1, op1_is, refl, m.0)))
+                    | inr e ↦
+                        let dst = e.0 in
+                        let dst_is = word_or_ok (cells (dst_address f s)) (CellMissing (dst_address f s)) dst e.1 in
+                        elim (bind_err (asserted f.opcode f s op0 op1 dst) (λ holds. Ok (next_state f s op0 op1 dst)) fault e.2) [
+                          | inl g ↦ fails_stop f fetched op0 op1 dst (record { op0_is = op0_is; op1_is = op1_is; dst_is = dst_is }) fault (asserted_err f.opcode f s op0 op1 dst fault g)
+                          | inr g ↦ let passes : ◌≡◌ {A = Result State StepFault} (Ok (next_state f s op0 op1 dst)) (Err fault) = g.2 in cc
+                        ]
+                  ]
+            ]
+      ]
+
+  pub stops_from : (fault : StepFault) → step_of cells s ≡ Err fault → Stops cells s fault
+  stops_from fault is =
+      elim (bind_err (listed cells s.pc) after_word fault (sym step_of-parts ∙ is)) [
+        | inl a ↦ let m = word_or_err (cells s.pc) (CellMissing s.pc) fault a in
+            subst (Stops cells s) (sym m.1) (inl (refl, m.0))
+        | inr a ↦
+            let word_is = word_or_ok (cells s.pc) (CellMissing s.pc) a.0 a.1 in
+            elim (bind_err (decoded s.pc a.0) after_flags fault a.2) [
+              | inl b ↦ let m = word_or_err (flags_of a.0) (BadWord s.pc) fault b in
+                  subst (Stops cells s) (sym m.1) (refl, (a.0, word_is, m.0))
+              | inr b ↦ stops_after_flags b.0 (a.0, word_is, word_or_ok (flags_of a.0) (BadWord s.pc) b.0 b.1) fault b.2
+            ]
+      ]
+
+  missing : (at addr : ℕ) → at ≡ addr → cells at ≡ None → listed cells addr ≡ Err (CellMissing at)
+  missing at addr same unlisted = subst (λ addr. listed cells addr ≡ Err (CellMissing at)) same (word_or_none (cells at) (CellMissing at) unlisted)
+
+  pub from_stops : (fault : StepFault) → Stops cells s fault → step_of cells s ≡ Err fault
+  from_stops (CellMissing at) (inl stops) = step_of-parts ∙ after_err (listed cells s.pc) after_word (CellMissing at) (missing at s.pc stops.0 stops.1)
+  from_stops (CellMissing at) (inr stops) =
+      let f = stops.0 in
+      let fetched = stops.1 in
+      let word = fetched.0 in
+      elim stops.2 [
+        | inl c ↦ up_to_flags word fetched.1 f fetched.2 ∙ after_err (listed cells (op0_address f s)) (after_op0 f) (CellMissing at) (missing at (op0_address f s) c.0 c.1)
+        | inr c ↦ elim c.2 [
+          | inl d ↦ up_to_op0 word fetched.1 f fetched.2 c.0 c.1 ∙ after_err (listed cells (op1_address f s c.0)) (after_op1 f c.0) (CellMissing at) (missing at (op1_address f s c.0) d.0 d.1)
+          | inr d ↦ up_to_op1 word fetched.1 f fetched.2 c.0 c.1 d.0 d.1 ∙ after_err (listed cells (dst_address f s)) (after_dst f c.0 d.0) (CellMissing at) (missing at (dst_address f s) d.2 d.3)
+        ]
+      ]
+  from_stops (BadWord at) stops =
+      let word = stops.1.0 in
+      let undecoded : decoded s.pc word ≡ Err (BadWord at) = subst (λ pc. decoded pc word ≡ Err (BadWord at)) stops.0 (word_or_none (flags_of word) (BadWord at) stops.1.2) in
+      up_to_word word (subst (λ pc. cells pc ≡ Some word) stops.0 stops.1.1) ∙ after_err (decoded s.pc word) after_flags (BadWord at) undecoded
+  from_stops (AssertFails left right) (f, op0, op1, dst, fetched, reads, fails) =
+      up_to_operands f fetched op0 op1 dst reads
+      ∙ after_err (asserted f.opcode f s op0 op1 dst) (λ holds. Ok (next_state f s op0 op1 dst)) (AssertFails left right) (asserted_fails f.opcode f s op0 op1 dst (AssertFails left right) fails)
+  from_stops (CallFails left right) (f, op0, op1, dst, fetched, reads, fails) =
+      up_to_operands f fetched op0 op1 dst reads
+      ∙ after_err (asserted f.opcode f s op0 op1 dst) (λ holds. Ok (next_state f s op0 op1 dst)) (CallFails left right) (asserted_fails f.opcode f s op0 op1 dst (CallFails left right) fails)
+
+  -- there is at most one next state
+  pub step_functional : (t u : State) → Step cells s t → Step cells s u → t ≡ u
+  step_functional t u to_t to_u =
+      let same = sym (from_step t to_t) ∙ from_step u to_u in
+      cc
+
+  -- a state that stops has no next state
+  pub stops_no_step : (t : State) (fault : StepFault) → Stops cells s fault → Step cells s t → ⊥
+  stops_no_step t fault stops to_t =
+      let same = sym (from_step t to_t) ∙ from_stops fault stops in
+      cc
+
+  -- it stops for one fault
+  pub stops_functional : (a b : StepFault) → Stops cells s a → Stops cells s b → a ≡ b
+  stops_functional a b by_a by_b =
+      let same = sym (from_stops a by_a) ∙ from_stops b by_b in
+      cc
+
+  -- what the function gives, by its variants
+  pub ok_is_step : (r : Result State StepFault) → r ≡ step_of cells s → (to : State) → (r ≡ Ok to) ↔ Step cells s to
+  ok_is_step r is to = (λ ok. step_from to (sym is ∙ ok), λ step. is ∙ from_step to step)
+
+  pub err_stops : (r : Result State StepFault) → r ≡ step_of cells s → IfErr r (Stops cells s)
+  err_stops (Ok to) is = tt
+  err_stops (Err fault) is = stops_from fault (sym is)

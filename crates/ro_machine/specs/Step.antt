@@ -1,5 +1,5 @@
 -- A step of the machine, from one state to the next over cells that are fixed. All sums are in the field.
-use Rattle.std.specs.Prelude.{◌≡◌, ◌≢◌, ◌⊎◌, ℕ, suc, Bool, true, false, ℤ, pos, negsuc, Option, Some, None, if◌then◌else◌, ◌==◌}
+use Rattle.std.specs.Prelude.{◌≡◌, ◌≢◌, ◌⊎◌, ℕ, suc, ℤ, pos, negsuc, Option, Some, None, if◌then◌else◌, ◌==◌}
 use Rattle.felt64.specs.Field.{sum, difference, product}
 use Rattle.ro_machine.specs.declared.word.Op1.{Op1}
 use Rattle.ro_machine.specs.declared.word.Op1.TheVariants as op1

@@ -1,5 +1,5 @@
 -- A step as a function of what is listed: the next state, or the first part that fails.
-use Rattle.std.specs.Prelude.{ℕ, Bool, true, false, Option, Some, None, Result, Ok, Err, if◌then◌else◌, ◌==◌}
+use Rattle.std.specs.Prelude.{ℕ, Option, Some, None, Result, Ok, Err, if◌then◌else◌, ◌==◌}
 use Rattle.ro_machine.specs.declared.word.Opcode.{Opcode}
 use Rattle.ro_machine.specs.declared.word.Opcode.TheVariants as opcode
 use Rattle.ro_machine.specs.declared.word.Flags.{Flags}

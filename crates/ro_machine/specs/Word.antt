@@ -1,7 +1,7 @@
 -- The instruction word. It is the sum of three offsets, each biased by 2 ^ 15, times 1, 2 ^ 16 and 2 ^ 32, and of
 -- 2 ^ (48 + k) for each set flag k: dst_reg, op0_reg, op1_imm, op1_fp, op1_ap, res_add, res_mul, pc_jump_abs,
 -- pc_jump_rel, pc_jnz, ap_add, ap_add1, opcode_call, opcode_ret, opcode_assert_eq, counted from 0.
-use Rattle.std.specs.Prelude.{◌≡◌, ℕ, suc, ◌+◌, ◌-◌, ◌*◌, ◌^◌, Bool, true, false, ℤ, pos, negsuc, Option, Some, None, if◌then◌else◌, ◌==◌}
+use Rattle.std.specs.Prelude.{◌≡◌, ◌≢◌, ℕ, suc, ◌+◌, ◌-◌, ◌*◌, ◌^◌, Bool, true, false, ℤ, pos, negsuc, Option, Some, None, if◌then◌else◌, ◌==◌}
 use Rattle.ro_machine.specs.declared.word.Op1.{Op1}
 use Rattle.ro_machine.specs.declared.word.Op1.TheVariants as op1
 use Rattle.ro_machine.specs.declared.word.ResKind.{ResKind}
@@ -26,7 +26,7 @@ add_immediate = record { off_dst = pos 0; off_op0 = negsuc 2; off_op1 = pos 1; d
 abbrev pub ret : Flags
 ret = record { off_dst = negsuc 1; off_op0 = negsuc 0; off_op1 = negsuc 0; dst_fp = true; op0_fp = true; op1 = op1.Fp; res = res.Op1; pc = pc.Abs; ap = ap.Keep; opcode = opcode.Ret }
 
--- the table of words: the flags that a word stands for
+-- the table of words: the flags that a word stands for. It has three rows today; a later word joins by a row of its own
 abbrev pub flags_of : ℕ → Option Flags
 flags_of word = if word == 0x1104800180018000 then Some call_rel else (if word == 0x482680017ffd8000 then Some add_immediate else (if word == 0x208b7fff7fff7ffe then Some ret else None))
 
@@ -34,10 +34,18 @@ flags_of word = if word == 0x1104800180018000 then Some call_rel else (if word =
 abbrev pub Word : Flags → ℕ → Type 0
 Word flags word = flags_of word ≡ Some flags
 
+-- No rule of the machine forbids these parts together. (A word that sets two flags of one kind has no Flags.)
+pub record IsDefined (f : Flags) : Type 0 where
+  pub jnz_alone : f.pc ≡ pc.Jnz → (f.res ≡ res.Op1) × (f.opcode ≡ opcode.Nop) × (f.ap ≢ ap.Add)
+  pub call_alone : f.opcode ≡ opcode.Call → f.ap ≡ ap.Keep
+  pub immediate_is_next : f.op1 ≡ op1.Imm → f.off_op1 ≡ pos 1
+
+-- an offset, as it stands in a word
 abbrev pub biased : ℤ → ℕ
 biased (pos n) = 2 ^ 15 + n
 biased (negsuc n) = 2 ^ 15 - suc n
 
+-- what each flag adds to a word
 abbrev pub flag : Bool → ℕ → ℕ
 flag true k = 2 ^ (48 + k)
 flag false k = 0

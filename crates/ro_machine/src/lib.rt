@@ -9,4 +9,4 @@ pub mod word;
 
 pub use machine::{State, StepFault, step};
 pub use memory::{InsertFault, Memory};
-pub use word::{ApKind, Flags, Op1, Opcode, PcKind, ResKind};
+pub use word::{ApKind, Flags, Op1, Opcode, PcKind, ResKind, decode, word_parts, word_sums};

@@ -1,4 +1,6 @@
 //! One step of the machine (Cairo whitepaper, section 4.5).
+//! A memory and a state come in; the next state goes out, or the first part of the step that fails.
+//! The trace check calls it for each step of a run. All sums of addresses and words are in the field.
 
 ghost use Rattle.std.specs.Prelude.{◌≡◌, ◌↔◌, Ok, IfErr};
 ghost use Rattle.std.specs.FinMap.{get};
@@ -38,7 +40,12 @@ pub enum StepFault {
     CallFails(Felt, Felt),
 }
 
-/// The step that starts at `from`.
+/// The step that starts at `from`. It reads four cells, whether the instruction uses them or not, and takes no memory.
+///
+/// # Errors
+///
+/// The first part that fails, where the parts are in this order: the word at pc is listed and decodes; op0, op1 and
+/// dst are listed; the opcode's assertions hold, of a call that on dst before that on op0.
 pub fn step(memory: &Memory, from: State) -> Result<State, StepFault>
     ensures step { (to : State) → (result ≡ Ok to) ↔ Step (get memory.now) from to }
     ensures stops { IfErr result (Stops (get memory.now) from) }
@@ -204,4 +211,109 @@ fn equal(left: Felt, right: Felt, fault: StepFault) -> Result<(), StepFault>
     ensures { result ≡ equal_or left right fault }
 {
     if left == right { Ok(()) } else { Err(fault) }
+}
+
+#[cfg(test)]
+mod tests {
+    use super::*;
+    use crate::memory::InsertFault;
+    use std::alloc::Global;
+    use std::test::Fail;
+
+    /// A run that calls a routine which adds 7 to its argument, here 5.
+    const CELLS: [(u64, u64); 12] = [
+        (0, 0x1104800180018000),
+        (1, 4),
+        (2, 0x010780017fff7fff),
+        (3, 0),
+        (4, 0x482680017ffd8000),
+        (5, 7),
+        (6, 0x208b7fff7fff7ffe),
+        (4294967296, 5),
+        (4294967297, 4294967297),
+        (4294967298, 2),
+        (4294967299, 12),
+        (4294967300, 0),
+    ];
+
+    /// The run's states as pc, ap and fp.
+    const STATES: [(u64, u64, u64); 4] = [
+        (0, 4294967297, 4294967297),
+        (4, 4294967299, 4294967299),
+        (6, 4294967300, 4294967299),
+        (2, 4294967300, 4294967297),
+    ];
+
+    fn felt(n: u64) -> Felt {
+        Felt::reduce(n as u128)
+    }
+
+    fn state(at: (u64, u64, u64)) -> State {
+        State {
+            pc: felt(at.0),
+            ap: felt(at.1),
+            fp: felt(at.2),
+        }
+    }
+
+    /// The run's memory, with one cell left out or given another word.
+    fn memory(alloc: Global, cell: u64, word: Option<u64>) -> Result<Memory, InsertFault> {
+        let mut memory = Memory::new(alloc);
+        for (addr, was) in CELLS {
+            let listed = if addr == cell { word } else { Some(was) };
+            if let Some(listed) = listed {
+                memory.insert(felt(addr), felt(listed))?;
+            }
+        }
+        Ok(memory)
+    }
+
+    #[test]
+    fn steps_through_a_call(rt: HostRuntime) -> Result<(), Fail> {
+        let memory = memory(rt.alloc(), 0, Some(0x1104800180018000))?;
+        for (from, to) in STATES.iter().zip(&STATES[1..]) {
+            assert_eq!(rt; step(&memory, state(*from)), Ok(state(*to)));
+        }
+        Ok(())
+    }
+
+    #[test]
+    fn stops_at_the_first_part_that_fails(rt: HostRuntime) -> Result<(), Fail> {
+        let [call, add, _, back] = STATES;
+        let missing = |cell: u64| StepFault::CellMissing(felt(cell));
+        for (cell, word, from, fault) in [
+            (0, None, call, missing(0)),
+            (4294967298, None, call, missing(4294967298)),
+            (1, None, call, missing(1)),
+            (4294967297, None, call, missing(4294967297)),
+            (
+                2,
+                Some(0x010780017fff7fff),
+                back,
+                StepFault::BadWord(felt(2)),
+            ),
+            (
+                4294967299,
+                Some(13),
+                add,
+                StepFault::AssertFails(felt(13), felt(12)),
+            ),
+            (
+                4294967297,
+                Some(4294967298),
+                call,
+                StepFault::CallFails(felt(4294967298), felt(4294967297)),
+            ),
+            (
+                4294967298,
+                Some(3),
+                call,
+                StepFault::CallFails(felt(3), felt(2)),
+            ),
+        ] {
+            let memory = memory(rt.alloc(), cell, word)?;
+            assert_eq!(rt; step(&memory, state(from)), Err(fault), "at {cell}");
+        }
+        Ok(())
+    }
 }

@@ -135,3 +135,42 @@ fn search(cells: &[(Felt, Felt)], addr: Felt) -> Result<usize, usize>
         _ => cells.binary_search_by_key(&addr.value(), |&(cell, _)| cell.value()),
     }
 }
+
+#[cfg(test)]
+mod tests {
+    use super::*;
+    use std::test::Fail;
+
+    #[test]
+    fn lists_each_cell_once(rt: HostRuntime) -> Result<(), Fail> {
+        let mut memory = Memory::new(rt.alloc());
+        let felt = |n: u32| Felt::from(n);
+        assert_eq!(rt; memory.from(felt(0)), None);
+        for (addr, word, result) in [
+            (3, 5, Ok(())),
+            (3, 6, Err(InsertFault::Differs { had: felt(5) })),
+            (3, 5, Ok(())),
+            (9, 1, Ok(())),
+            (1, 2, Ok(())),
+            (7, 3, Ok(())),
+        ] {
+            assert_eq!(rt; memory.insert(felt(addr), felt(word)), result, "at {addr}");
+        }
+        assert_eq!(rt; memory.len(), 4);
+        for (addr, word, cell) in [
+            (0, None, Some((1, 2))),
+            (3, Some(5), Some((3, 5))),
+            (4, None, Some((7, 3))),
+            (9, Some(1), Some((9, 1))),
+            (10, None, None),
+        ] {
+            assert_eq!(rt; memory.get(felt(addr)), word.map(felt), "at {addr}");
+            assert_eq!(rt;
+                memory.from(felt(addr)),
+                cell.map(|(a, w)| (felt(a), felt(w))),
+                "at {addr}"
+            );
+        }
+        Ok(())
+    }
+}

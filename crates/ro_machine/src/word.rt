@@ -1,16 +1,20 @@
 //! The instruction word: its offsets and flags (Cairo whitepaper, section 4.4).
+//! A word comes in as a field element, its parts go out as [`Flags`]; the machine's step takes them.
+//!
+//! Words are looked up in a table, which has three rows today: a relative call, an addition of an immediate, and
+//! `ret`. A later word joins by a row in `flags_of` of the definitions and an arm in [`decode`].
 
-ghost use Rattle.std.specs.Prelude.{◌≡◌};
-ghost use Rattle.ro_machine.specs.Word.{flags_of, word_of, Word};
+ghost use Rattle.std.specs.Prelude.{◌≡◌, ℕ};
+ghost use Rattle.ro_machine.specs.Word.{flags_of, word_of, Word, IsDefined};
 
 use felt64::Felt;
 
-/// Where op1 is read.
+/// The base from which op1 is read. A word sets at most one of the three flags op1_imm, op1_fp and op1_ap.
 #[derive(Clone, Copy, Debug, PartialEq, Eq)]
 pub enum Op1 {
     /// At the word of op0.
     Op0,
-    /// Beside the instruction, at pc.
+    /// Beside the instruction, at pc: an immediate, for which the instruction takes a second cell.
     Imm,
     /// In the frame, at fp.
     Fp,
@@ -18,7 +22,7 @@ pub enum Op1 {
     Ap,
 }
 
-/// What the operands give.
+/// What the operands give, which is called res.
 #[derive(Clone, Copy, Debug, PartialEq, Eq)]
 pub enum ResKind {
     /// op1 alone.
@@ -100,7 +104,7 @@ const ADD_IMMEDIATE: u64 = 0x482680017ffd8000;
 /// `ret`.
 const RET: u64 = 0x208b7fff7fff7ffe;
 
-/// The flags of a word, where it stands for an instruction.
+/// The parts of a word, or `None` where the table has no such word. It takes no memory.
 pub fn decode(word: Felt) -> Option<Flags>
     ensures { result ≡ flags_of word }
 {
@@ -144,3 +148,13 @@ pub fn decode(word: Felt) -> Option<Flags>
         _ => None,
     }
 }
+
+/// Each word of the table is the sum of its biased offsets and its flags. A law: it does nothing when it runs.
+pub fn word_sums()
+    ensures { (flags : Flags) (word : ℕ) → Word flags word → word_of flags ≡ word }
+{}
+
+/// No word of the table joins parts that no instruction may have together. A law: it does nothing when it runs.
+pub fn word_parts()
+    ensures { (flags : Flags) (word : ℕ) → Word flags word → IsDefined flags }
+{}

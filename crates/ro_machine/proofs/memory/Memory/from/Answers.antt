@@ -1,4 +1,4 @@
-use Rattle.std.proofs.Common.{◌≡◌, Option, IfSome, IfNone, ◌⊎◌, inl, inr, sym, ap, ◌∙◌, subst}
+use Rattle.std.proofs.Common.{IfSome, IfNone, ◌⊎◌, inl, inr, ◌∙◌}
 use Rattle.ro_machine.specs.Cells.{IsAt, IsGapFor, IsFirstFrom, NoneFrom}
 use Rattle.ro_machine.proofs.Place.{copied_at, first_from}
 use Rattle.ro_machine.proofs.memory.Memory.from.Goals as goal

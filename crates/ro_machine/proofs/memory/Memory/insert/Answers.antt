@@ -1,6 +1,6 @@
-use Rattle.std.proofs.Common.{◌≡◌, ℕ, Some, None, Ok, Err, inl, inr, refl, sym, ap, ◌∙◌, subst, arith}
+use Rattle.std.proofs.Common.{◌≡◌, Some, inl, sym, ap, ◌∙◌, subst, arith}
 use Rattle.std.specs.FinMap as map
-use Rattle.std.proofs.lemmas.Result.{on_ok_weaker, err_from_is_err_and}
+use Rattle.std.proofs.lemmas.Result.{err_from_is_err_and}
 use Rattle.ro_machine.specs.Cells.{IsAt, IsGapFor}
 use Rattle.ro_machine.proofs.Place.{get_read, get_unlisted, from_entries-insert, rising_insert, insert_same}
 use Rattle.ro_machine.proofs.memory.Memory.insert.Goals as goal
