@@ -1,0 +1,5 @@
+pub mod Order
+pub mod Loops
+pub mod Fields
+pub mod Listings
+pub mod Runs
