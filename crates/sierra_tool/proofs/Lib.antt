@@ -1,3 +1,4 @@
 pub mod FormLaws
 pub mod ScanLemmas
 pub mod Soundness
+pub mod CommandLaws

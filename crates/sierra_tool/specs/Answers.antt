@@ -77,23 +77,23 @@ pub record IsVerdict (program : Program) (input : Input) (run : Run) (verdict : 
 abbrev pub OfRun : Program → Input → Run → Answer → Type 0
 OfRun program input run answer =
     ((IsAccepted program input run → ⊥) × (answer ≡ answers.RunRejected))
-      ⊎ (IsAccepted program input run × ((verdict : Verdict) × IsVerdict program input run verdict × (answer ≡ answers.Judged verdict)))
+    ⊎ (IsAccepted program input run × ((verdict : Verdict) × IsVerdict program input run verdict × (answer ≡ answers.Judged verdict)))
 
 abbrev pub OfRunBytes : Program → Input → List ℕ → Answer → Type 0
 OfRunBytes program input bytes answer =
     (((run : Run) → IsRunFile run bytes → ⊥) × (answer ≡ answers.RunRefused))
-      ⊎ ((run : Run) × IsRunFile run bytes × OfRun program input run answer)
+    ⊎ ((run : Run) × IsRunFile run bytes × OfRun program input run answer)
 
 -- an input that is read and has the gas leads to the run file
 abbrev pub OfInput : Option FileMap → Names → Program → Input → Answer → Type 0
 OfInput told names program input answer =
     ((input.gas < entry_gas) × (answer ≡ answers.NotEnoughGas input.gas))
-      ⊎ ((entry_gas ≤ input.gas) × ((run : Reading) × Reads told names.run run × LeadsTo sources.Run run (OfRunBytes program input) answer))
+    ⊎ ((entry_gas ≤ input.gas) × ((run : Reading) × Reads told names.run run × LeadsTo sources.Run run (OfRunBytes program input) answer))
 
 abbrev pub OfInputText : Option FileMap → Names → Program → List ℕ → Answer → Type 0
 OfInputText told names program text answer =
     (((input : Input) → IsInput text input → ⊥) × (answer ≡ answers.NotBuilt))
-      ⊎ ((input : Input) × IsInput text input × OfInput told names program input answer)
+    ⊎ ((input : Input) × IsInput text input × OfInput told names program input answer)
 
 -- a program that is read leads to the input
 abbrev pub OfProgram : Option FileMap → Names → Program → Answer → Type 0
@@ -102,7 +102,7 @@ OfProgram told names program answer = (input : Reading) × Reads told names.inpu
 abbrev pub OfProgramText : Option FileMap → Names → List ℕ → Answer → Type 0
 OfProgramText told names text answer =
     (((program : Program) → IsProgram text program → ⊥) × (answer ≡ answers.NotBuilt))
-      ⊎ ((program : Program) × IsProgram text program × OfProgram told names program answer)
+    ⊎ ((program : Program) × IsProgram text program × OfProgram told names program answer)
 
 -- The answer of a check: the program is read first, then the input, then the run file, and the first that is refused
 -- is the answer.
@@ -134,10 +134,10 @@ status_of answers.RunRejected = 15
 abbrev pub verdict_text : Verdict → List ℕ
 verdict_text verdict =
     concat ((if verdict.outcome.panic then codes "panic " else codes "value ") ∷ decimal verdict.outcome.value
-      ∷ codes "\ngas used " ∷ decimal verdict.outcome.gas_used
-      ∷ codes "\nsteps " ∷ decimal verdict.steps
-      ∷ codes "\nchecks " ∷ decimal verdict.checks
-      ∷ codes "\n" ∷ [])
+    ∷ codes "\ngas used " ∷ decimal verdict.outcome.gas_used
+    ∷ codes "\nsteps " ∷ decimal verdict.steps
+    ∷ codes "\nchecks " ∷ decimal verdict.checks
+    ∷ codes "\n" ∷ [])
 
 abbrev pub not_built : List ℕ
 not_built = codes "not built\n"
@@ -167,6 +167,6 @@ WantsMemory told names appended status = (status ≡ 6) × appended [] × ForFil
 abbrev pub Tool : List (List ℕ) → Option FileMap → Type 0 → Type 0 → Type 0 → (List ℕ → Type 0) → ℕ → Type 0
 Tool words told missed failed unwritten appended status =
     (NoCheck words × Delivers unwritten appended not_built 9 status)
-      ⊎ ((names : Names) × IsCheck words names
-        × (((answer : Answer) × Answers told names answer × HasCause missed failed answer × Delivers unwritten appended (text_of names answer) (status_of answer) status)
-          ⊎ WantsMemory told names appended status))
+    ⊎ ((names : Names) × IsCheck words names
+    × (((answer : Answer) × Answers told names answer × HasCause missed failed answer × Delivers unwritten appended (text_of names answer) (status_of answer) status)
+    ⊎ WantsMemory told names appended status))

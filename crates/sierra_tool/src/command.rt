@@ -33,14 +33,17 @@ impl<'a> Check<'a> {
             (NoCheck (map string_bytes words.now))
             (λ check. IsCheck (map string_bytes words.now) (names_of check)) }
     {
-        match words {
-            [command, program, input, run] if command.as_str() == "check" => Some(Check {
-                program: program.as_str(),
-                input: input.as_str(),
-                run: run.as_str(),
-            }),
-            _ => None,
+        let [command, program, input, run] = words else {
+            return None;
+        };
+        if command.as_str() != "check" {
+            return None;
         }
+        Some(Check {
+            program: program.as_str(),
+            input: input.as_str(),
+            run: run.as_str(),
+        })
     }
 
     /// The name of one of its files.
