@@ -10,10 +10,11 @@ use Rattle.sierra_tool.specs.Values.{Value, felt, Stands, StandFor, AreBelow, St
 
 -- one word that is listed below an address stands there for its number
 pub one_stands_below : (cells : ℕ → Option ℕ) (base n : ℕ) → cells (difference base 1) ≡ Some n → StandBelow cells base (felt n ∷ [])
-one_stands_below cells base n listed =
-    (n ∷ [],
-     (λ k below. let first : k ≡ 0 = omega arith in subst (λ i. cells (difference base (1 - i)) ≡ slice_get (n ∷ []) i) (sym first) listed),
-     (n ∷ [], [], refl, refl, refl))
+one_stands_below cells base n listed = (
+  n ∷ [],
+  (λ k below. let first : k ≡ 0 = omega arith in subst (λ i. cells (difference base (1 - i)) ≡ slice_get (n ∷ []) i) (sym first) listed),
+  (n ∷ [], [], refl, refl, refl),
+)
 
 -- words for one number are that number
 words_of_one : (cells : ℕ → Option ℕ) (own rest words : List ℕ) (n : ℕ) → words ≡ own ++ rest → Stands cells own (felt n) → rest ≡ [] → words ≡ n ∷ []
@@ -55,10 +56,11 @@ one_from_starts cells states first n first_is starts =
 pub neighbours_more : {X : Type 0} (P : X → X → Type 0) (xs : List X) (i : ℕ) (a b : X) → 1 ≤ i → a ≡ get_or xs (i - 1) a → b ≡ get_or xs i b → P a b → ((k : ℕ) (x y : X) → k + 1 < i → slice_get xs k ≡ Some x → slice_get xs (k + 1) ≡ Some y → P x y) → (k : ℕ) (x y : X) → k + 1 < i + 1 → slice_get xs k ≡ Some x → slice_get xs (k + 1) ≡ Some y → P x y
 neighbours_more P xs i a b one a_is b_is holds below k x y within x_is y_is =
     elim (cases_lt (k + 1) i) [
-      inl earlier ↦ below k x y earlier x_is y_is
-    | inr not_earlier ↦
-        let here : k + 1 ≡ i = omega arith in
-        let before : i - 1 ≡ k = omega arith in
-        let a_here : a ≡ x = a_is ∙ (ap (λ j. get_or xs j a) before ∙ get_or_from_slice_get xs k x a x_is) in
-        let b_here : b ≡ y = b_is ∙ (ap (λ j. get_or xs j b) (sym here) ∙ get_or_from_slice_get xs (k + 1) y b y_is) in
-        subst (λ v. P x v) b_here (subst (λ v. P v b) a_here holds) ]
+      | inl earlier ↦ below k x y earlier x_is y_is
+      | inr not_earlier ↦
+          let here : k + 1 ≡ i = omega arith in
+          let before : i - 1 ≡ k = omega arith in
+          let a_here : a ≡ x = a_is ∙ (ap (λ j. get_or xs j a) before ∙ get_or_from_slice_get xs k x a x_is) in
+          let b_here : b ≡ y = b_is ∙ (ap (λ j. get_or xs j b) (sym here) ∙ get_or_from_slice_get xs (k + 1) y b y_is) in
+          subst (λ v. P x v) b_here (subst (λ v. P v b) a_here holds)
+    ]

@@ -1,7 +1,7 @@
 //! The test of a run: whether what a run file lists is an accepted run of a program on an input.
 //!
 //! A program, an input and a run's parts come in, and a yes or no goes out. The check asks it before it reads a
-//! verdict off a run. Nothing here takes memory, and the time is linear in the states, with four look-ups for each.
+//! verdict off a run. Nothing here takes memory, and each state costs one step and one look-up of a cell.
 
 ghost use Rattle.std.specs.Prelude.{◌≡◌, ◌↔◌, ℕ, ◌<◌, ◌≤◌, ◌^◌, [], ◌∷◌, length, IsTrue};
 ghost use Rattle.std.specs.FinMap.{get};
@@ -156,5 +156,102 @@ fn is_in_range(memory: &Memory, addr: Felt) -> bool
     match memory.get(addr) {
         Some(word) => word.value() < RANGE_LIMIT,
         None => true,
+    }
+}
+
+#[cfg(test)]
+mod tests {
+    use super::*;
+    use ro_machine::InsertFault;
+    use std::alloc::Global;
+    use std::test::Fail;
+
+    /// The cells of the run that adds 7 to 5.
+    const CELLS: [(u64, u64); 11] = [
+        (0, 0x1104_8001_8001_8000),
+        (1, 4),
+        (2, 0x0107_8001_7fff_7fff),
+        (3, 0),
+        (4, 0x4826_8001_7ffd_8000),
+        (5, 7),
+        (6, 0x208b_7fff_7fff_7ffe),
+        (4294967296, 5),
+        (4294967297, 4294967297),
+        (4294967298, 2),
+        (4294967299, 12),
+    ];
+
+    /// Its states: pc, ap and fp.
+    const STATES: [(u64, u64, u64); 4] = [
+        (0, 4294967297, 4294967297),
+        (4, 4294967299, 4294967299),
+        (6, 4294967300, 4294967299),
+        (2, 4294967300, 4294967297),
+    ];
+
+    const RC: u64 = 8589934592;
+
+    fn felt(n: u64) -> Felt {
+        Felt::reduce(n as u128)
+    }
+
+    /// The run's cells, but with this word at this address.
+    fn memory(alloc: Global, at: u64, word: u64) -> Result<Memory, InsertFault> {
+        let mut memory = Memory::new(alloc);
+        memory.insert(felt(at), felt(word))?;
+        for (addr, word) in CELLS {
+            if addr != at {
+                memory.insert(felt(addr), felt(word))?;
+            }
+        }
+        Ok(memory)
+    }
+
+    #[test]
+    fn tells_the_run_from_its_neighbours(rt: HostRuntime) -> Result<(), Fail> {
+        let program = Program { constant: felt(7) };
+        let input = Input {
+            gas: 300,
+            argument: felt(5),
+        };
+        let [first, second, third, last] = STATES;
+        let run = STATES.as_slice();
+        let other_ap = [first, (4, 4294967300, 4294967299), third, last];
+        let twice_last = [first, second, third, last, last];
+        let other_pc = [(4, 4294967297, 4294967297), second, third, last];
+        for (name, (at, word), states, accepted) in [
+            ("the run", CELLS[0], run, true),
+            ("a word of the code", (0, 0x1104_8001_8001_8001), run, false),
+            ("the constant", (5, 8), run, false),
+            ("the argument", (4294967296, 6), run, false),
+            ("the result", (4294967299, 13), run, false),
+            ("an ap", CELLS[0], other_ap.as_slice(), false),
+            ("no last state", CELLS[0], &STATES[..3], false),
+            (
+                "the last state twice",
+                CELLS[0],
+                twice_last.as_slice(),
+                false,
+            ),
+            ("the first pc", CELLS[0], other_pc.as_slice(), false),
+            ("no state", CELLS[0], &STATES[..0], false),
+            ("a wide range cell", (RC, 4294967296), run, false),
+            ("the last range cell wide", (RC + 3, 4294967296), run, false),
+            ("the widest range cell", (RC, 4294967295), run, true),
+            ("a wide cell behind them", (RC + 4, 4294967296), run, true),
+        ] {
+            let memory = memory(rt.alloc(), at, word)?;
+            let mut list = Vec::new(rt.alloc());
+            for &(pc, ap, fp) in states {
+                list.push(State {
+                    pc: felt(pc),
+                    ap: felt(ap),
+                    fp: felt(fp),
+                })?;
+            }
+            let result = is_accepted(&program, &input, felt(RC), &memory, &list);
+            assert_eq!(rt; result, accepted, "{name}");
+        }
+        Ok(())
     }
 }

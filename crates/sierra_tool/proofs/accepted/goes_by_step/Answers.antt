@@ -11,8 +11,9 @@ loop-i-preserved c =
     (omega arith) c.index-states-i.is c.index-states-i-in-loop-i.is (c.if-not-steps_to.ensures.0 refl) c.loop-i.invariant
 
 pub returns : goal.returns
-returns c =
-    (λ yes i s t here next.
+returns c = (
+  λ yes i s t here next.
       let within : i + 1 < length c.args.states.now = slice_get_within c.args.states.now (i + 1) t next in
       c.loop-i.invariant i s t (omega arith) here next,
-     λ goes. refl)
+  λ goes. refl,
+)
