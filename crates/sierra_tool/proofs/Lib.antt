@@ -1,4 +1,6 @@
+pub mod AcceptedLaws
+pub mod CheckLaws
+pub mod CommandLaws
 pub mod FormLaws
 pub mod ScanLemmas
 pub mod Soundness
-pub mod CommandLaws
