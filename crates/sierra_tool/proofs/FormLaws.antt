@@ -1,22 +1,79 @@
 -- The numbers that stand in the texts of a program and an input.
-use Rattle.std.proofs.Common.{◌≡◌, ℕ, ◌<◌, List, [], ◌∷◌, ◌++◌, sym, ◌∙◌, arith}
+use Rattle.std.proofs.Common.{◌≡◌, ℕ, ◌<◌, List, [], ◌∷◌, ◌++◌, sym, ◌∙◌, subst, ap, arith, Option, Some, Result, Ok, Err, false}
+use Rattle.std.specs.Result.{is_ok, result_ok}
+use Rattle.felt64.specs.declared.NumFault.{NumFault}
 use Rattle.std.specs.Prelude.{codes, decimal}
-use Rattle.std.specs.List.{concat}
 use Rattle.std.specs.Char.{IsAsciiDigit}
 use Rattle.std.proofs.lemmas.List.{append_cancel_left}
 use Rattle.felt64.specs.Field.{modulus}
-use Rattle.sierra_tool.specs.Forms.{IsProgram, IsInput}
+use Rattle.sierra_tool.specs.Forms.{IsProgram, program_text, IsInput}
 use Rattle.sierra_tool.specs.Scan.{IsAllDigits, StartsWithNoDigit}
 use Rattle.sierra_tool.specs.declared.program.Program.{Program}
+use Rattle.sierra_tool.specs.declared.program.TheConstants.{HEAD, DECLARED, BODY, END}
 use Rattle.sierra_tool.specs.declared.input.Input.{Input}
 use Rattle.sierra_tool.proofs.ScanLemmas.{one_number}
 
--- the digits behind a known front are those of the number that stands there, where a byte that is no digit ends it
-pub number_behind : (front rest ds behind : List ℕ) (n byte : ℕ) (tail : List ℕ) → n < modulus → (IsAsciiDigit byte → ⊥) → rest ≡ ds ++ behind → IsAllDigits ds → StartsWithNoDigit behind → front ++ rest ≡ front ++ (decimal n ++ byte ∷ tail) → (ds ≡ decimal n) × (behind ≡ byte ∷ tail)
-number_behind front rest ds behind n byte tail below no_digit parts digits none same =
-    one_number ds behind n (byte ∷ tail) below digits none no_digit (sym parts ∙ append_cancel_left front _ _ same)
+-- a text is this front, then digits, and then a part that begins with none
+pub record HasDigits (text front digits behind : List ℕ) : Type 0 where
+  pub rest : List ℕ
+  pub front_is : text ≡ front ++ rest
+  pub rest_is : rest ≡ digits ++ behind
+  pub digits_only : IsAllDigits digits
+  pub none_behind : StartsWithNoDigit behind
 
--- the first digits of a program's text are its constant's
-pub program_number : (text rest ds behind : List ℕ) (program : Program) → text ≡ codes "type felt64 = felt64;\n\nlibfunc felt64_const<" ++ rest → rest ≡ ds ++ behind → IsAllDigits ds → StartsWithNoDigit behind → IsProgram text program → ds ≡ decimal program.constant
-program_number text rest ds behind program front parts digits none is =
-    (number_behind (codes "type felt64 = felt64;\n\nlibfunc felt64_const<") rest ds behind program.constant 62 _ is.below (λ digit. omega (arith, digit)) parts digits none (sym front ∙ is.text_is)).0
+-- the digits are those of the number that stands behind the front, and what follows them is what follows it
+pub number_behind : (text front digits behind : List ℕ) (n : ℕ) (tail : List ℕ) → HasDigits text front digits behind → n < modulus → StartsWithNoDigit tail → text ≡ front ++ (decimal n ++ tail) → (digits ≡ decimal n) × (behind ≡ tail)
+number_behind text front digits behind n tail has below none same =
+    one_number digits behind n tail below has.digits_only has.none_behind none
+    (sym has.rest_is ∙ append_cancel_left front _ _ (sym has.front_is ∙ same))
+
+-- a text that is a front, digits and a part, told with the digits in another's place
+pub other_digits : (text front digits others tail : List ℕ) → digits ≡ others → text ≡ front ++ (others ++ tail) → text ≡ front ++ (digits ++ tail)
+other_digits text front digits others tail same is = subst (λ (ds : List ℕ). text ≡ front ++ (ds ++ tail)) (sym same) is
+
+-- what follows a front and the number's digits
+pub behind_again : (text front digits others behind tail : List ℕ) → digits ≡ others → text ≡ front ++ (digits ++ behind) → text ≡ front ++ (others ++ tail) → behind ≡ tail
+behind_again text front digits others behind tail same is other =
+    append_cancel_left digits behind tail (append_cancel_left front _ _ (sym is ∙ other_digits text front digits others tail same other))
+
+-- the first digits of a program's text are its constant's, and the rest of the program follows
+pub program_number : (text digits behind : List ℕ) (program : Program) → HasDigits text HEAD.now digits behind → IsProgram text program → (digits ≡ decimal program.constant) × (behind ≡ DECLARED.now ++ (decimal program.constant ++ (BODY.now ++ (decimal program.constant ++ END.now))))
+program_number text digits behind program has is =
+    number_behind text HEAD.now digits behind program.constant _ has is.below (λ digit. omega (arith, digit)) is.text_is
+
+-- what follows the constant's second digits
+pub program_body : (text digits behind body : List ℕ) (program : Program) → HasDigits text HEAD.now digits behind → IsProgram text program → behind ≡ DECLARED.now ++ (digits ++ body) → body ≡ BODY.now ++ (digits ++ END.now)
+program_body text digits behind body program has is second =
+    let number = program_number text digits behind program has is in
+    other_digits body BODY.now digits (decimal program.constant) END.now number.0
+    (behind_again behind DECLARED.now digits (decimal program.constant) body _ number.0 second number.1)
+
+-- what follows the constant's third digits
+pub program_end : (text digits behind body end : List ℕ) (program : Program) → HasDigits text HEAD.now digits behind → IsProgram text program → behind ≡ DECLARED.now ++ (digits ++ body) → body ≡ BODY.now ++ (digits ++ end) → end ≡ END.now
+program_end text digits behind body end program has is second third =
+    append_cancel_left digits end _ (append_cancel_left BODY.now _ _ (sym third ∙ program_body text digits behind body program has is second))
+
+-- an answer that is a number isn't one that gives none
+pub read_as_none : (read : Result ℕ NumFault) (n : ℕ) → read ≡ Ok n → false ≡ is_ok read → ⊥
+read_as_none read n is none = cc
+
+-- an answer that gives a number is that number
+pub read_as_some : (read : Result ℕ NumFault) (n : ℕ) → Some n ≡ result_ok read → read ≡ Ok n
+read_as_some (Ok m) n same = cc
+read_as_some (Err fault) n same = cc
+
+-- an answer is one number
+pub same_number : (read : Result ℕ NumFault) (m n : ℕ) → read ≡ Ok m → read ≡ Ok n → m ≡ n
+same_number read m n first second = cc
+
+-- parts put together
+whole_text : (text head rest digits behind declared body between end last : List ℕ) → text ≡ head ++ rest → rest ≡ digits ++ behind → behind ≡ declared ++ (digits ++ body) → body ≡ between ++ (digits ++ end) → end ≡ last → text ≡ head ++ (digits ++ (declared ++ (digits ++ (between ++ (digits ++ last)))))
+whole_text text head rest digits behind declared body between end last a b c d e = cc
+
+-- a text that was read to its end is the program's
+pub is_program : (text digits behind body end : List ℕ) (n : ℕ) → HasDigits text HEAD.now digits behind → behind ≡ DECLARED.now ++ (digits ++ body) → body ≡ BODY.now ++ (digits ++ end) → end ≡ END.now → digits ≡ decimal n → n < modulus → IsProgram text (record { constant = n })
+is_program text digits behind body end n has second third last number below = record {
+  below = below;
+  text_is = subst (λ (ds : List ℕ). text ≡ program_text ds) number
+    (whole_text text HEAD.now has.rest digits behind DECLARED.now body BODY.now end END.now has.front_is has.rest_is second third last);
+}
