@@ -1,7 +1,5 @@
 -- The numbers that stand in the texts of a program and an input.
-use Rattle.std.proofs.Common.{◌≡◌, ℕ, ◌<◌, ◌^◌, List, [], ◌∷◌, ◌++◌, sym, ◌∙◌, subst, ap, arith, Option, Some, Result, Ok, Err, false}
-use Rattle.std.specs.Result.{is_ok, result_ok}
-use Rattle.felt64.specs.declared.NumFault.{NumFault}
+use Rattle.std.proofs.Common.{◌≡◌, ℕ, ◌<◌, ◌^◌, List, [], ◌∷◌, ◌++◌, sym, ◌∙◌, subst, ap, arith, Option, Some}
 use Rattle.std.specs.Prelude.{codes, decimal}
 use Rattle.std.specs.Char.{IsAsciiDigit}
 use Rattle.std.proofs.lemmas.List.{append_cancel_left}
@@ -46,19 +44,6 @@ pub program_end : (text digits behind body end : List ℕ) (program : Program) �
 program_end text digits behind body end program has is second third =
     append_cancel_left digits end _ (append_cancel_left BODY.now _ _ (sym third ∙ program_body text digits behind body program has is second))
 
--- an answer that is a number isn't one that gives none
-pub read_as_none : (read : Result ℕ NumFault) (n : ℕ) → read ≡ Ok n → false ≡ is_ok read → ⊥
-read_as_none read n is none = cc
-
--- an answer that gives a number is that number
-pub read_as_some : (read : Result ℕ NumFault) (n : ℕ) → Some n ≡ result_ok read → read ≡ Ok n
-read_as_some (Ok m) n same = cc
-read_as_some (Err fault) n same = cc
-
--- an answer is one number
-pub same_number : (read : Result ℕ NumFault) (m n : ℕ) → read ≡ Ok m → read ≡ Ok n → m ≡ n
-same_number read m n first second = cc
-
 -- parts put together
 whole_text : (text head digits behind declared body between end last : List ℕ) → text ≡ head ++ (digits ++ behind) → behind ≡ declared ++ (digits ++ body) → body ≡ between ++ (digits ++ end) → end ≡ last → text ≡ head ++ (digits ++ (declared ++ (digits ++ (between ++ (digits ++ last)))))
 whole_text text head digits behind declared body between end last a b c d = cc
@@ -93,3 +78,7 @@ is_input text gas_digits line argument_digits end gas argument first second last
   argument_below = argument_below;
   text_is = whole_lines text GAS.now gas_digits line LINE_END.now argument_digits end LINE_END.now (decimal gas) (decimal argument) first.text_is second.text_is last gas_is argument_is;
 }
+
+-- equal numbers make equal inputs
+pub same_input : {gas argument other_gas other_argument : ℕ} → gas ≡ other_gas → argument ≡ other_argument → ◌≡◌ {A = Option Input} (Some (record { gas = gas; argument = argument })) (Some (record { gas = other_gas; argument = other_argument }))
+same_input first second = cc

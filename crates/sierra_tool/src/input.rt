@@ -3,7 +3,7 @@
 ghost use Rattle.std.specs.Prelude.{◌≡◌, ◌↔◌, ◌<◌, ◌^◌, ℕ, Some, decimal};
 ghost use Rattle.sierra_tool.specs.Forms.{IsInput};
 
-use crate::scan::{digits_after};
+use crate::scan::{digits_after, read_felt};
 use felt64::Felt;
 
 /// What a run starts with.
@@ -26,7 +26,7 @@ pub fn read_input(text: &[u8]) -> Option<Input>
     let (gas_digits, line) = digits_after(text, GAS)?;
     let gas = read_gas(gas_digits)?;
     let (argument_digits, end) = digits_after(line, LINE_END)?;
-    let argument = Felt::read_decimal(argument_digits).ok()?;
+    let argument = read_felt(argument_digits)?;
     if end == LINE_END {
         Some(Input { gas, argument })
     } else {

@@ -3,7 +3,7 @@
 ghost use Rattle.std.specs.Prelude.{◌≡◌, ◌↔◌, Some};
 ghost use Rattle.sierra_tool.specs.Forms.{IsProgram};
 
-use crate::scan::{after_both, digits_after};
+use crate::scan::{after_both, digits_after, read_felt};
 use felt64::Felt;
 
 /// A program that adds a constant to its one argument.
@@ -28,7 +28,7 @@ pub fn read_program(text: &[u8]) -> Option<Program>
     ensures { (program : Program) → (result ≡ Some program) ↔ IsProgram text.now program }
 {
     let (digits, declared) = digits_after(text, HEAD)?;
-    let constant = Felt::read_decimal(digits).ok()?;
+    let constant = read_felt(digits)?;
     let body = after_both(declared, DECLARED, digits)?;
     let end = after_both(body, BODY, digits)?;
     if end == END {

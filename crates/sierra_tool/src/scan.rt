@@ -1,7 +1,10 @@
 //! Taking a text apart from its front.
 
-ghost use Rattle.std.specs.Prelude.{◌≡◌, ◌≢◌, ◌++◌, ℕ, List, MatchOption};
+ghost use Rattle.std.specs.Prelude.{◌≡◌, ◌≢◌, ◌<◌, ◌↔◌, ◌++◌, ℕ, List, Some, MatchOption, decimal};
+ghost use Rattle.felt64.specs.Field.{modulus};
 ghost use Rattle.sierra_tool.specs.Scan.{IsAllDigits, StartsWithNoDigit, HasDigits};
+
+use felt64::Felt;
 
 /// What follows `front`, where the text begins with it.
 fn after<'a>(text: &'a [u8], front: &[u8]) -> Option<&'a [u8]>
@@ -44,4 +47,11 @@ pub fn after_both<'a>(text: &'a [u8], front: &[u8], digits: &[u8]) -> Option<&'a
         Some(rest) => after(rest, digits),
         None => None,
     }
+}
+
+/// The number of the field that these digits write.
+pub fn read_felt(digits: &[u8]) -> Option<Felt>
+    ensures { (n : ℕ) → (result ≡ Some n) ↔ ((n < modulus) × (digits.now ≡ decimal n)) }
+{
+    Felt::read_decimal(digits).ok()
 }
