@@ -1,7 +1,8 @@
 -- Digits at the front of a text.
-use Rattle.std.proofs.Common.{◌≡◌, ℕ, ◌+◌, ◌<◌, ◌^◌, List, [], ◌∷◌, ◌++◌, length, refl, sym, ◌∙◌, ap, subst, arith, rules}
+use Rattle.std.proofs.Common.{◌≡◌, ◌≢◌, ℕ, ◌+◌, ◌<◌, ◌^◌, Option, Some, None, MatchOption, Bor, List, [], ◌∷◌, ◌++◌, length, refl, sym, ◌∙◌, ap, subst, arith, rules}
 use Rattle.std.specs.Char.{IsAsciiDigit}
 use Rattle.std.specs.Fmt.{decimal}
+use Rattle.std.proofs.lemmas.List.{append_cancel_left}
 use Rattle.std.proofs.lemmas.List.Elements.{recursion_from_All}
 use Rattle.std.specs.List.{AllByRecursion}
 use Rattle.std.specs.Str.Parse.{AllDigits}
@@ -37,3 +38,8 @@ one_split (x ∷ ds) (y ∷ es) rest tail d e r t same =
 pub one_number : (ds rest : List ℕ) (n : ℕ) (tail : List ℕ) → n < modulus → IsAllDigits ds → StartsWithNoDigit rest → StartsWithNoDigit tail → ds ++ rest ≡ decimal n ++ tail → (ds ≡ decimal n) × (rest ≡ tail)
 one_number ds rest n tail below digits none none_behind same =
     one_split ds (decimal n) rest tail (recursion_from_All IsAsciiDigit ds digits) (decimal_digits n below) none none_behind same
+
+-- what follows two parts, from what follows the second in the rest behind the first
+pub behind_both : (text front digits rest : List ℕ) (found : Option (Bor (List ℕ))) → text ≡ front ++ rest → MatchOption found ((tail : List ℕ) → rest ≢ digits ++ tail) (λ tail. rest ≡ digits ++ tail.now) → MatchOption found ((tail : List ℕ) → text ≢ front ++ (digits ++ tail)) (λ tail. text ≡ front ++ (digits ++ tail.now))
+behind_both text front digits rest None first none = λ tail same. none tail (append_cancel_left front _ _ (sym first ∙ same))
+behind_both text front digits rest (Some tail) first second = first ∙ ap (λ (behind : List ℕ). front ++ behind) second

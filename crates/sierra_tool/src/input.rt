@@ -1,9 +1,9 @@
 //! The input of the form of program that is built: a gas number and one argument.
 
-ghost use Rattle.std.specs.Prelude.{◌≡◌, ◌↔◌, Some};
+ghost use Rattle.std.specs.Prelude.{◌≡◌, ◌↔◌, ◌<◌, ◌^◌, ℕ, Some, decimal};
 ghost use Rattle.sierra_tool.specs.Forms.{IsInput};
 
-use crate::scan::{after, digits};
+use crate::scan::{digits_after, read_felt};
 use felt64::Felt;
 
 /// What a run starts with.
@@ -23,14 +23,21 @@ const LINE_END: &[u8] = b"\n";
 pub fn read_input(text: &[u8]) -> Option<Input>
     ensures { (input : Input) → (result ≡ Some input) ↔ IsInput text.now input }
 {
-    let (first, rest) = digits(after(text, GAS)?);
-    let gas = Felt::read_decimal(first).ok()?;
-    let gas = u32::try_from(gas.value()).ok()?;
-    let (second, rest) = digits(after(rest, LINE_END)?);
-    let argument = Felt::read_decimal(second).ok()?;
-    if rest == LINE_END {
+    let (gas_digits, line) = digits_after(text, GAS)?;
+    let gas = read_gas(gas_digits)?;
+    let (argument_digits, end) = digits_after(line, LINE_END)?;
+    let argument = read_felt(argument_digits)?;
+    if end == LINE_END {
         Some(Input { gas, argument })
     } else {
         None
     }
+}
+
+/// The gas that these digits write.
+fn read_gas(digits: &[u8]) -> Option<u32>
+    ensures { (gas : ℕ) → (result ≡ Some gas) ↔ ((gas < 2 ^ 32) × (digits.now ≡ decimal gas)) }
+{
+    let gas = Felt::read_decimal(digits).ok()?;
+    u32::try_from(gas.value()).ok()
 }

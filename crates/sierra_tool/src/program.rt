@@ -3,7 +3,7 @@
 ghost use Rattle.std.specs.Prelude.{◌≡◌, ◌↔◌, Some};
 ghost use Rattle.sierra_tool.specs.Forms.{IsProgram};
 
-use crate::scan::{after, after_both, digits};
+use crate::scan::{after_both, digits_after, read_felt};
 use felt64::Felt;
 
 /// A program that adds a constant to its one argument.
@@ -27,10 +27,10 @@ const END: &[u8] =
 pub fn read_program(text: &[u8]) -> Option<Program>
     ensures { (program : Program) → (result ≡ Some program) ↔ IsProgram text.now program }
 {
-    let (number, rest) = digits(after(text, HEAD)?);
-    let constant = Felt::read_decimal(number).ok()?;
-    let body = after_both(rest, DECLARED, number)?;
-    let end = after_both(body, BODY, number)?;
+    let (digits, declared) = digits_after(text, HEAD)?;
+    let constant = read_felt(digits)?;
+    let body = after_both(declared, DECLARED, digits)?;
+    let end = after_both(body, BODY, digits)?;
     if end == END {
         Some(Program { constant })
     } else {
