@@ -47,7 +47,7 @@ reads_unread (Some files) name fault other whole = of_file (get files name) whol
 
 -- a file that is too long has more bytes than the limit
 pub reads_long : (told : Option FileMap) (name : List ℕ) → Told told name (Err faults.TooLong) → (bytes : List ℕ) × Reads told name (found bytes) × (file_limit < length bytes)
-reads_long None name whole = (replicate (file_limit + 1) 0, tt, rw (length-replicate (file_limit + 1) 0) (omega arith))
+reads_long None name whole = (replicate (file_limit + 1) 0, tt, rw (length-replicate {A = ℕ} (file_limit + 1) 0) (omega arith))
 reads_long (Some files) name whole = of_file (get files name) whole
   where
     of_file : (file : Option (List ℕ)) → MatchOption file (◌≡◌ {A = Result (Vec ℕ) ReadFault} (Err faults.TooLong) (Err faults.Missing)) (λ bytes. ReadsWhole bytes file_limit (Err faults.TooLong)) → (bytes : List ℕ) × MatchOption file ⊥ (λ there. bytes ≡ there) × (file_limit < length bytes)

@@ -1,13 +1,16 @@
 -- Whatever an accepted run lists, its three steps give the argument plus the constant.
-use Rattle.std.proofs.Common.{◌≡◌, ◌≢◌, ℕ, ◌+◌, ◌-◌, ◌*◌, ◌%◌, ◌<◌, ◌≤◌, List, [], ◌∷◌, ◌++◌, length, Option, Some, None, slice_get, refl, sym, ap, subst, ◌∙◌, inl, inr, zero, suc, arith}
+use Rattle.std.proofs.Common.{◌≡◌, ◌≢◌, ℕ, ◌+◌, ◌-◌, ◌*◌, ◌%◌, ◌<◌, ◌≤◌, List, [], ◌∷◌, ◌++◌, length, Option, Some, None, slice_get, get_or, Bool, false, refl, sym, ap, subst, ◌∙◌, inl, inr, zero, suc, arith}
 use Rattle.felt64.specs.Field.{modulus, sum, difference, product}
 use Rattle.ro_machine.specs.declared.machine.State.{State}
 use Rattle.ro_machine.specs.declared.word.Flags.{Flags}
 use Rattle.ro_machine.specs.Word.{Word, flags_of, call_rel, add_immediate, ret}
 use Rattle.ro_machine.specs.Step.{Step, Operands, Asserts, next_state}
 use Rattle.std.proofs.lemmas.Bool.{cases_lt}
+use Rattle.std.proofs.lemmas.Option.{get_or_from_slice_get}
+use Rattle.felt64.proofs.FieldLaws.{sum_below}
 use Rattle.sierra_tool.specs.Accepted.{Accepts, EndsOnce}
 use Rattle.sierra_tool.specs.Meaning.{code_of, arguments_of, Means, Shows, CostsAtMost}
+use Rattle.sierra_tool.proofs.AcceptedLaws.{one_is_listed, one_stands_below}
 use Rattle.sierra_tool.specs.Values.{Value, felt, StandBelow, AreBelow, StandFor, Stands}
 use Rattle.sierra_tool.specs.declared.program.Program.{Program}
 use Rattle.sierra_tool.specs.declared.input.Input.{Input}
@@ -114,19 +117,6 @@ ends_at states once i s is there =
       | inr last ↦ omega arith
     ]
 
--- the words that stand for one felt are the felt
-one_felt : (cells : ℕ → Option ℕ) (n : ℕ) (own rest words : List ℕ) → Stands cells own (felt n) → words ≡ own ++ rest → rest ≡ [] → words ≡ n ∷ []
-one_felt cells n [] rest words stands is nothing = absurd stands
-one_felt cells n (word ∷ []) rest words stands is nothing = is ∙ ap (λ behind. word ∷ behind) nothing ∙ ap (λ first. first ∷ []) stands
-one_felt cells n (word ∷ next ∷ others) rest words stands is nothing = absurd stands
-
--- one felt stands in the cell below
-felt_below : (cells : ℕ → Option ℕ) (top n : ℕ) → StandBelow cells top (felt n ∷ []) → cells (difference top 1) ≡ Some n
-felt_below cells top n stands =
-    let words_are : stands.0 ≡ n ∷ [] = one_felt cells n stands.2.0 stands.2.1 stands.0 stands.2.3 stands.2.2 stands.2.4 in
-    let below : AreBelow cells top (n ∷ []) = subst (AreBelow cells top) words_are stands.1 in
-    below 0 (omega arith)
-
 -- the cell below the sum's end is the sum's cell
 end_cell : (frame : ℕ) → difference (sum frame 1) 1 ≡ sum frame 0
 end_cell frame = omega arith
@@ -142,13 +132,13 @@ one_state : (states : List State) (i : ℕ) (s t : State) → slice_get states i
 one_state states i s t first second = cc
 
 -- what an accepted run is: four states, of which the last has the sum below its ap
-record Ends (cells : ℕ → Option ℕ) (states : List State) (result : ℕ) : Type 0 where
-  four : length states ≡ 4
-  last : State
-  last_is : slice_get states 3 ≡ Some last
-  result_is : cells (difference last.ap 1) ≡ Some result
+pub record Ends (cells : ℕ → Option ℕ) (states : List State) (result : ℕ) : Type 0 where
+  pub four : length states ≡ 4
+  pub last : State
+  pub last_is : slice_get states 3 ≡ Some last
+  pub result_is : cells (difference last.ap 1) ≡ Some result
 
-ends : (program : Program) (input : Input) (rc : ℕ) (cells : ℕ → Option ℕ) (states : List State) → Accepts (code_of program) (arguments_of input) rc cells states → Ends cells states (sum input.argument program.constant)
+pub ends : (program : Program) (input : Input) (rc : ℕ) (cells : ℕ → Option ℕ) (states : List State) → Accepts (code_of program) (arguments_of input) rc cells states → Ends cells states (sum input.argument program.constant)
 ends program input rc cells states accepts =
     let base = accepts.start.0 in
     let first = accepts.start.1 in
@@ -161,7 +151,7 @@ ends program input rc cells states accepts =
     let fourth = goes_on states accepts.end 2 _ third_is (λ e. absurd (omega arith)) in
     let returned = returns cells (sum (sum base 2) 1) (sum base 2) fourth.0 (accepts.steps 2 _ _ third_is fourth.1) (accepts.code_cells 6 (omega arith)) in
     let at_end : fourth.0.pc ≡ 2 = one_word cells (sum base 1) _ _ (ap cells (sym (back_cell base)) ∙ returned.pc_is) called.back in
-    let argument_is : added.argument ≡ input.argument = one_word cells (difference base 1) _ _ (ap cells (sym (argument_cell base)) ∙ added.argument_is) (felt_below cells base input.argument accepts.start.2) in
+    let argument_is : added.argument ≡ input.argument = one_word cells (difference base 1) _ _ (ap cells (sym (argument_cell base)) ∙ added.argument_is) (one_is_listed cells base input.argument accepts.start.2) in
     record {
       four = ends_at states accepts.end 3 fourth.0 fourth.1 at_end;
       last = fourth.0;
@@ -177,7 +167,7 @@ soundness program input rc cells states verdict accepts shows =
     let same_place : length states - 1 ≡ 3 = omega arith in
     let last_is : slice_get states 3 ≡ Some shows.last = ap (slice_get states) (sym same_place) ∙ shows.last_is in
     let same_last : shows.last ≡ run.last = one_state states 3 shows.last run.last last_is run.last_is in
-    let shown = felt_below cells shows.last.ap verdict.outcome.value shows.values in
+    let shown = one_is_listed cells shows.last.ap verdict.outcome.value shows.values in
     let value : verdict.outcome.value ≡ sum input.argument program.constant =
     one_word cells (difference run.last.ap 1) _ _ (ap (λ s. cells (difference s.ap 1)) (sym same_last) ∙ shown) run.result_is in
     let gas_used = shows.gas_used in
@@ -187,3 +177,38 @@ soundness program input rc cells states verdict accepts shows =
       record { panic = shows.panic; values = ap (λ n. felt n ∷ []) value; gas_used = gas_used; gas_left = omega arith },
       omega arith,
     )
+
+-- the cell below the last state's ap is listed with the sum
+pub last_cell : (program : Program) (input : Input) (rc : ℕ) (cells : ℕ → Option ℕ) (states : List State) → Accepts (code_of program) (arguments_of input) rc cells states → (s : State) → s ≡ get_or states (length states - 1) s → cells (difference s.ap 1) ≡ Some (sum input.argument program.constant)
+last_cell program input rc cells states accepts s is =
+    let run = ends program input rc cells states accepts in
+    let four = run.four in
+    let same_place : length states - 1 ≡ 3 = omega arith in
+    let read : get_or states 3 s ≡ run.last = get_or_from_slice_get states 3 run.last s run.last_is in
+    let same : s ≡ run.last = is ∙ ap (λ i. get_or states i s) same_place ∙ read in
+    subst (λ t. cells (difference t.ap 1) ≡ Some (sum input.argument program.constant)) (sym same) run.result_is
+
+-- the same of the cell as a checker finds it
+pub cell_at_end : (program : Program) (input : Input) (rc : ℕ) (cells : ℕ → Option ℕ) (states : List State) → Accepts (code_of program) (arguments_of input) rc cells states → (lent : List State) (s : State) (one end : ℕ) → lent ≡ states → s ≡ get_or lent (length lent - 1) s → one ≡ 1 → end ≡ difference (get_or lent (length lent - 1) s).ap one → cells end ≡ Some (sum input.argument program.constant)
+cell_at_end program input rc cells states accepts lent s one end lends is single at_end =
+    let is_last : s ≡ get_or states (length states - 1) s = subst (λ l. s ≡ get_or l (length l - 1) s) lends is in
+    ap cells (at_end ∙ ap (λ t. difference t.ap one) (sym is) ∙ ap (difference s.ap) single) ∙ last_cell program input rc cells states accepts s is_last
+
+-- a verdict of that value, of one step less than there are states, and of what the input's gas leaves is shown
+pub shows_it : (program : Program) (input : Input) (rc : ℕ) (cells : ℕ → Option ℕ) (states : List State) → Accepts (code_of program) (arguments_of input) rc cells states → (verdict : Verdict) → verdict.outcome.value ≡ sum input.argument program.constant → verdict.outcome.panic ≡ false → verdict.outcome.gas_left + 300 ≡ input.gas → verdict.outcome.gas_used ≡ 300 → verdict.steps ≡ length states - 1 → verdict.checks ≡ 0 → Shows input cells states verdict
+shows_it program input rc cells states accepts verdict value panic gas_left gas_used steps checks =
+    let run = ends program input rc cells states accepts in
+    let four = run.four in
+    let same_place : length states - 1 ≡ 3 = omega arith in
+    let below : verdict.outcome.value < modulus = rw value (sum_below input.argument program.constant) in
+    record {
+      last = run.last;
+      last_is = ap (slice_get states) same_place ∙ run.last_is;
+      types = (below, tt);
+      values = one_stands_below cells run.last.ap verdict.outcome.value (run.result_is ∙ ap Some (sym value));
+      panic = panic;
+      gas_left = gas_left;
+      gas_used = gas_used;
+      steps = omega arith;
+      checks = checks;
+    }
