@@ -53,7 +53,7 @@ pub is_program : (text digits behind body end : List ℕ) (n : ℕ) → HasDigit
 is_program text digits behind body end n has second third last number below = record {
   below = below;
   text_is = subst (λ (ds : List ℕ). text ≡ program_text ds) number
-    (whole_text text HEAD.now digits behind DECLARED.now body BODY.now end END.now has.text_is second third last);
+      (whole_text text HEAD.now digits behind DECLARED.now body BODY.now end END.now has.text_is second third last);
 }
 
 -- the first digits of an input's text are its gas, and the argument's line follows
