@@ -1,10 +1,9 @@
 -- The numbers that stand in the texts of a program and an input.
-use Rattle.std.proofs.Common.{◌≡◌, ℕ, ◌<◌, ◌^◌, List, [], ◌∷◌, ◌++◌, sym, ◌∙◌, subst, ap, arith, Option, Some}
-use Rattle.std.specs.Prelude.{codes, decimal}
-use Rattle.std.specs.Char.{IsAsciiDigit}
+use Rattle.std.proofs.Common.{◌≡◌, ℕ, ◌<◌, ◌^◌, List, ◌++◌, sym, ◌∙◌, subst, arith, Option, Some}
+use Rattle.std.specs.Prelude.{decimal}
 use Rattle.std.proofs.lemmas.List.{append_cancel_left}
 use Rattle.felt64.specs.Field.{modulus}
-use Rattle.sierra_tool.specs.Forms.{IsProgram, program_text, IsInput, input_text}
+use Rattle.sierra_tool.specs.Forms.{IsProgram, program_text, IsInput}
 use Rattle.sierra_tool.specs.Scan.{StartsWithNoDigit, HasDigits}
 use Rattle.sierra_tool.specs.declared.program.Program.{Program}
 use Rattle.sierra_tool.specs.declared.program.TheConstants.{HEAD, DECLARED, BODY, END}

@@ -37,3 +37,64 @@ pub fn read_program(text: &[u8]) -> Option<Program>
         None
     }
 }
+
+#[cfg(test)]
+mod tests {
+    use super::*;
+
+    macro_rules! adding {
+        ($first:literal, $second:literal, $third:literal, $behind:literal) => {
+            concat!(
+                "type felt64 = felt64;\n\n",
+                "libfunc felt64_const<", $first, "> = felt64_const<", $second, ">;\n",
+                "libfunc felt64_add = felt64_add;\n",
+                "libfunc store_temp<felt64> = store_temp<felt64>;\n\n",
+                "felt64_const<", $third, ">() -> ([1]);\n",
+                "felt64_add([0], [1]) -> ([2]);\n",
+                "store_temp<felt64>([2]) -> ([3]);\n",
+                "return([3]);\n\n",
+                "main@0([0]: felt64) -> (felt64);\n",
+                $behind,
+            )
+        };
+    }
+
+    #[test]
+    fn reads_programs_of_the_form(rt: HostRuntime) {
+        let rows = [
+            (adding!("7", "7", "7", ""), Some(7)),
+            (adding!("0", "0", "0", ""), Some(0)),
+            (
+                adding!(
+                    "18446744069414584320",
+                    "18446744069414584320",
+                    "18446744069414584320",
+                    ""
+                ),
+                Some(18446744069414584320),
+            ),
+            (
+                adding!(
+                    "18446744073709551615",
+                    "18446744073709551615",
+                    "18446744073709551615",
+                    ""
+                ),
+                None,
+            ),
+            (adding!("7", "8", "7", ""), None),
+            (adding!("7", "7", "77", ""), None),
+            (adding!("07", "07", "07", ""), None),
+            (adding!("", "", "", ""), None),
+            (adding!("7", "7", "7", "\n"), None),
+            ("", None),
+        ];
+        for (text, want) in rows {
+            let constant = match read_program(text.as_bytes()) {
+                Some(program) => Some(program.constant.value()),
+                None => None,
+            };
+            assert_eq!(rt; constant, want, "at {text}");
+        }
+    }
+}
