@@ -1,6 +1,7 @@
 -- What a read of a whole file tells of the file's reading.
 use Rattle.std.proofs.Common.{◌≡◌, ◌≢◌, ℕ, ◌+◌, ◌<◌, ◌≤◌, List, [], length, Option, Some, None, Result, Ok, Err, refl, sym, inl, inr, replicate, arith}
-use Rattle.std.specs.Prelude.{MatchOption, alloc_error}
+use Rattle.std.specs.Prelude.{MatchOption, IfOk, alloc_error}
+use Rattle.std.specs.declared.alloc.AllocError.{AllocError}
 use Rattle.std.specs.Global.{Vec}
 use Rattle.std.specs.FinMap.{get}
 use Rattle.std.proofs.Math.ListN.{length-replicate}
@@ -45,9 +46,13 @@ reads_unread (Some files) name fault other whole = of_file (get files name) whol
     of_file None h = absurd (other cc)
     of_file (Some there) h = tt
 
+-- there are more bytes than any number
+longer : (n : ℕ) → (bytes : List ℕ) × (n < length bytes)
+longer n = (replicate (n + 1) 0, rw (length-replicate {A = ℕ} (n + 1) 0) (omega arith))
+
 -- a file that is too long has more bytes than the limit
 pub reads_long : (told : Option FileMap) (name : List ℕ) → Told told name (Err faults.TooLong) → (bytes : List ℕ) × Reads told name (found bytes) × (file_limit < length bytes)
-reads_long None name whole = (replicate (file_limit + 1) 0, tt, rw (length-replicate {A = ℕ} (file_limit + 1) 0) (omega arith))
+reads_long None name whole = let more = longer file_limit in (more.0, tt, more.1)
 reads_long (Some files) name whole = of_file (get files name) whole
   where
     of_file : (file : Option (List ℕ)) → MatchOption file (◌≡◌ {A = Result (Vec ℕ) ReadFault} (Err faults.TooLong) (Err faults.Missing)) (λ bytes. ReadsWhole bytes file_limit (Err faults.TooLong)) → (bytes : List ℕ) × MatchOption file ⊥ (λ there. bytes ≡ there) × (file_limit < length bytes)
@@ -75,3 +80,17 @@ is_there (Some files) name bytes reads = of_file (get files name) reads
     of_file : (file : Option (List ℕ)) → MatchOption file ⊥ (λ there. bytes ≡ there) → MatchOption file ⊥ (λ there. Unit {0})
     of_file None h = h
     of_file (Some there) h = tt
+
+-- what an outcome has, it has of more
+pub on_ok : (P Q : Answer → Type 0) → ((answer : Answer) → P answer → Q answer) → (result : Result Answer AllocError) → IfOk result P → IfOk result Q
+on_ok P Q more (Ok answer) holds = more answer holds
+on_ok P Q more (Err fault) holds = tt
+
+-- what the refusal of a file that was not read whole has
+pub on_refusal : (Q : Answer → Type 0) (source : Source) (fault : ReadFault) → ((answer : Answer) → answer_of_fault source fault ≡ Ok answer → Q answer) → (result : Result Answer AllocError) → result ≡ answer_of_fault source fault → IfOk result Q
+on_refusal Q source fault more (Ok answer) is = more answer (sym is)
+on_refusal Q source fault more (Err other) is = tt
+
+-- nothing is no value
+pub never : {X : Type 0} (x : X) → None ≡ Some x → ⊥
+never x e = absurd cc
