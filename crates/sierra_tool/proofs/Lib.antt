@@ -4,3 +4,4 @@ pub mod CommandLaws
 pub mod FormLaws
 pub mod ScanLemmas
 pub mod Soundness
+pub mod OutputLaws

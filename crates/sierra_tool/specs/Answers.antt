@@ -1,5 +1,5 @@
 -- What a check answers, and what it writes.
-use Rattle.std.specs.Prelude.{ℕ, ◌≡◌, ◌<◌, ◌≤◌, ◌+◌, ◌^◌, ◌⊎◌, List, [], ◌∷◌, ◌++◌, length, take, Option, MatchOption, codes, decimal, if◌then◌else◌}
+use Rattle.std.specs.Prelude.{ℕ, Bool, ◌≡◌, ◌<◌, ◌≤◌, ◌+◌, ◌^◌, ◌⊎◌, List, [], ◌∷◌, ◌++◌, length, take, Option, MatchOption, codes, decimal, if◌then◌else◌}
 use Rattle.std.specs.List.{concat}
 use Rattle.std.specs.FinMap.{get}
 use Rattle.edge_io.specs.Files.{FileMap, ForFile}
@@ -130,10 +130,14 @@ status_of (answers.NotEnoughGas given) = 13
 status_of answers.RunRefused = 14
 status_of answers.RunRejected = 15
 
+-- the word before an outcome's value
+abbrev pub outcome_word : Bool → List ℕ
+outcome_word panic = if panic then codes "panic " else codes "value "
+
 -- the verdict's four lines
 abbrev pub verdict_text : Verdict → List ℕ
 verdict_text verdict =
-    concat ((if verdict.outcome.panic then codes "panic " else codes "value ") ∷ decimal verdict.outcome.value
+    concat (outcome_word verdict.outcome.panic ∷ decimal verdict.outcome.value
     ∷ codes "\ngas used " ∷ decimal verdict.outcome.gas_used
     ∷ codes "\nsteps " ∷ decimal verdict.steps
     ∷ codes "\nchecks " ∷ decimal verdict.checks
