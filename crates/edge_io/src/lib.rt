@@ -15,3 +15,6 @@ pub use mem_sink::MemSink;
 pub use sinks::{Failed, Sink, write_all};
 pub use std_files::StdFiles;
 pub use std_sink::StdSink;
+
+#[cfg(test)]
+mod tests;

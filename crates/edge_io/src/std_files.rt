@@ -8,13 +8,24 @@ use std::io;
 use std::io::{ErrorKind, Read, Seek, SeekFrom};
 use std::rt::Files as SystemFiles;
 
-/// A file that was opened, under the name that it was opened by.
+/// A file that was opened, under the name that it was opened by where there was memory to keep it.
 #[derive(Drop)]
 struct Opened<F> {
-    name: String,
+    name: Option<String>,
     file: F,
     /// Where the last read ended.
     end: u64,
+}
+
+impl<F> Opened<F> {
+    /// Whether the last read was of the file of this name and ended at the place `at`.
+    fn goes_on(&self, name: &str, at: u64) -> bool {
+        self.end == at
+            && self
+                .name
+                .as_ref()
+                .is_some_and(|known| known.as_str() == name)
+    }
 }
 
 /// The system's files, with their faults and their missing names counted. The file that was read last stays open, so
@@ -33,7 +44,12 @@ impl<R: SystemFiles + AllocGlobal> StdFiles<R> {
         ensures faults { result.faults ≡ 0 }
         ensures misses { result.misses ≡ 0 }
     {
-        StdFiles { rt, last: None, faults: 0, misses: 0 }
+        StdFiles {
+            rt,
+            last: None,
+            faults: 0,
+            misses: 0,
+        }
     }
 
     /// How many reads failed. It stands still at its last value.
@@ -56,7 +72,12 @@ impl<R: SystemFiles + AllocGlobal> StdFiles<R> {
         if at > 0 {
             file.seek(SeekFrom::Start(at))?;
         }
-        Ok(Opened { name: String::from_str(self.rt.alloc(), name)?, file, end: at })
+        let name = String::from_str(self.rt.alloc(), name).ok();
+        Ok(Opened {
+            name,
+            file,
+            end: at,
+        })
     }
 
     /// Reads once. A file whose last read ended where this one starts is not opened anew.
@@ -66,7 +87,7 @@ impl<R: SystemFiles + AllocGlobal> StdFiles<R> {
         ensures misses { self.new.misses ≡ self.old.misses }
     {
         let mut opened = match self.last.take() {
-            Some(last) if at > 0 && last.end == at && last.name.as_str() == name => last,
+            Some(last) if at > 0 && last.goes_on(name, at) => last,
             _ => self.open(name, at)?,
         };
         let count = opened.file.read(buf)?;
@@ -83,8 +104,7 @@ impl<R: SystemFiles + AllocGlobal> Files for StdFiles<R> {
 
     ghost misses = { λ s. s.misses };
 
-    /// A path that leads through a file to nowhere is missing, as one that is not there. Any other error, of a directory
-    /// or of want of memory for the name too, has failed.
+    /// A path that leads through a file to nowhere is missing, as one that is not there. Any other error has failed.
     fn read_at(&mut self, name: &str, at: u64, buf: &mut [u8]) -> Result<usize, FileFault> {
         match self.read(name, at, buf) {
             Ok(count) => Ok(count),
