@@ -10,3 +10,6 @@ mod run;
 pub use reading::read;
 pub use refusal::FileRefusal;
 pub use run::{Run, States};
+
+#[cfg(test)]
+mod tests;

@@ -172,3 +172,8 @@ pub fn read(alloc: Global, bytes: &[u8]) -> Result<Run, FileRefusal>
 {
     listed(alloc, bytes)
 }
+
+/// A file spells one run at most.
+pub fn one_run()
+    ensures { (a b : Run) → IsRun a → IsRun b → spelling a ≡ spelling b → a ≡ b }
+{}
