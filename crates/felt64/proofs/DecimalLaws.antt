@@ -3,12 +3,13 @@ use Rattle.std.proofs.Common.{ℕ, zero, suc, ◌≡◌, ◌≢◌, ◌<◌, ◌
 use Rattle.std.specs.Prelude.{decimal}
 use Rattle.std.specs.Char.{digit_value, IsAsciiDigit}
 use Rattle.std.specs.Int.Digits.{digits_of, number_from_digits, AllBelowBase}
-use Rattle.std.specs.List.{Any}
+use Rattle.std.specs.List.{All}
 use Rattle.std.specs.Str.Parse.{AllDigits, IsNumeral, digits_value}
 use Rattle.std.proofs.lemmas.Bool.{cases_eq, ne_eqb}
 use Rattle.std.proofs.lemmas.Int.Digits.{digits_of_step, first_digits_of, all_below_base_digits_of, number_digits_of, number_more, digits_value_is, digits_value_more, all_below_base_from_digits}
 use Rattle.std.proofs.lemmas.Nat.{mod-mul-add}
 use Rattle.std.proofs.lemmas.List.{take_more, map-append}
+use Rattle.std.proofs.lemmas.List.Elements.{All-from_get_or}
 use Rattle.std.proofs.Math.Seq.{take-length}
 use Rattle.std.proofs.lemmas.Fmt.{decimal_by_steps_wide}
 use Rattle.std.proofs.lemmas.Str.{digit_value_digit}
@@ -188,3 +189,24 @@ value_more text i value all within same =
     let more = digits_value_more 10 text i within in
     let byte = digit_value_digit (get_or text i 0) (digit_at text i all within) in
     omega (arith, more, byte, same)
+
+-- no two numbers with at most 64 digits have the same `decimal`
+pub decimal_injective : (m n : ℕ) → m < 10 ^ 64 → n < 10 ^ 64 → decimal m ≡ decimal n → m ≡ n
+decimal_injective m n m_below n_below same =
+    sym (digits_value-decimal m m_below) ∙ (ap (digits_value 10) same ∙ digits_value-decimal n n_below)
+
+-- std's `decimal` is a decimal text
+pub is_decimal-decimal : (n : ℕ) → n < 10 ^ 64 → IsDecimal (decimal n)
+is_decimal-decimal n below = rw (decimal_is_decimal_text n below) (is_decimal-decimal_text n)
+
+-- a decimal text has a first byte
+pub decimal_nonempty : (text : List ℕ) → IsDecimal text → 0 < length text
+decimal_nonempty text is = is.digits.0
+
+-- each byte of a decimal text is a digit
+pub decimal_all_digits : (text : List ℕ) → IsDecimal text → All IsAsciiDigit text
+decimal_all_digits text is = All-from_get_or IsAsciiDigit text 0 (λ i within. digit_at text i is.digits.1 within)
+
+-- the same, at an index
+pub decimal_digit_at : (text : List ℕ) (i : ℕ) → IsDecimal text → i < length text → (48 ≤ get_or text i 0) × (get_or text i 0 ≤ 57)
+decimal_digit_at text i is within = digit_at text i is.digits.1 within

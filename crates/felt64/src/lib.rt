@@ -11,6 +11,8 @@ ghost use Rattle.felt64.specs.Field.{modulus, sum, difference, product, negative
 ghost use Rattle.felt64.specs.Decimal.{decimal_text, IsNotDigits};
 
 mod decimal;
+#[cfg(test)]
+mod tests;
 
 use std::fmt;
 use std::marker::Model;
