@@ -1,21 +1,20 @@
 -- The decimal texts: each number has one, and no two numbers have the same.
-use Rattle.std.proofs.Common.{ℕ, zero, suc, ◌≡◌, ◌≢◌, ◌<◌, ◌≤◌, ◌+◌, ◌*◌, ◌-◌, ◌/◌, ◌%◌, ◌^◌, ◌⊎◌, List, [], ◌∷◌, ◌++◌, length, get_or, take, map, refl, sym, ◌∙◌, ap, subst, inl, inr, arith, add-one, lit≤}
+use Rattle.std.proofs.Common.{ℕ, zero, suc, ◌≡◌, ◌≢◌, ◌<◌, ◌≤◌, ◌+◌, ◌*◌, ◌-◌, ◌/◌, ◌%◌, ◌^◌, List, [], ◌∷◌, ◌++◌, length, get_or, take, map, refl, sym, ◌∙◌, ap, inl, inr, arith, add-one, lit≤}
 use Rattle.std.specs.Prelude.{decimal}
 use Rattle.std.specs.Char.{digit_value, IsAsciiDigit}
 use Rattle.std.specs.Int.Digits.{digits_of, number_from_digits, AllBelowBase}
 use Rattle.std.specs.List.{All}
-use Rattle.std.specs.Str.Parse.{AllDigits, IsNumeral, digits_value}
+use Rattle.std.specs.Str.Parse.{AllDigits, digits_value}
 use Rattle.std.proofs.lemmas.Bool.{cases_eq, ne_eqb}
 use Rattle.std.proofs.lemmas.Int.Digits.{digits_of_step, first_digits_of, all_below_base_digits_of, number_digits_of, number_more, digits_value_is, digits_value_more, all_below_base_from_digits}
-use Rattle.std.proofs.lemmas.Nat.{mod-mul-add}
 use Rattle.std.proofs.lemmas.List.{take_more, map-append}
 use Rattle.std.proofs.lemmas.List.Elements.{All-from_get_or}
 use Rattle.std.proofs.Math.Seq.{take-length}
 use Rattle.std.proofs.lemmas.Fmt.{decimal_by_steps_wide}
 use Rattle.std.proofs.lemmas.Str.{digit_value_digit}
 use Rattle.std.proofs.lemmas.Str.Parse.{digit_from_value, digit_at}
-use Rattle.std.proofs.lemmas.Grind.{common_steps, get_or_default_zero}
-use Rattle.felt64.specs.Decimal.{decimal_text, IsDecimal, IsNotDigits, HasNonDigit, HasLeadingZero}
+use Rattle.std.proofs.lemmas.Grind.{get_or_default_zero}
+use Rattle.felt64.specs.Decimal.{decimal_text, IsDecimal, IsNotDigits}
 
 -- a digit's byte has the digit's value
 digit_value-glyph : (digit : ℕ) → digit < 10 → digit_value (48 + digit) ≡ digit
@@ -199,14 +198,14 @@ decimal_injective m n m_below n_below same =
 pub is_decimal-decimal : (n : ℕ) → n < 10 ^ 64 → IsDecimal (decimal n)
 is_decimal-decimal n below = rw (decimal_is_decimal_text n below) (is_decimal-decimal_text n)
 
--- a decimal text has a first byte
-pub decimal_nonempty : (text : List ℕ) → IsDecimal text → 0 < length text
-decimal_nonempty text is = is.digits.0
+-- std's `decimal` has a first byte
+pub decimal_nonempty : (n : ℕ) → n < 10 ^ 64 → 0 < length (decimal n)
+decimal_nonempty n below = (is_decimal-decimal n below).digits.0
 
--- each byte of a decimal text is a digit
-pub decimal_all_digits : (text : List ℕ) → IsDecimal text → All IsAsciiDigit text
-decimal_all_digits text is = All-from_get_or IsAsciiDigit text 0 (λ i within. digit_at text i is.digits.1 within)
+-- each byte of std's `decimal` is a digit
+pub decimal_digit_at : (n i : ℕ) → n < 10 ^ 64 → i < length (decimal n) → (48 ≤ get_or (decimal n) i 0) × (get_or (decimal n) i 0 ≤ 57)
+decimal_digit_at n i below within = digit_at (decimal n) i (is_decimal-decimal n below).digits.1 within
 
--- the same, at an index
-pub decimal_digit_at : (text : List ℕ) (i : ℕ) → IsDecimal text → i < length text → (48 ≤ get_or text i 0) × (get_or text i 0 ≤ 57)
-decimal_digit_at text i is within = digit_at text i is.digits.1 within
+-- the same, of all its bytes
+pub decimal_all_digits : (n : ℕ) → n < 10 ^ 64 → All IsAsciiDigit (decimal n)
+decimal_all_digits n below = All-from_get_or IsAsciiDigit (decimal n) 0 (λ i within. decimal_digit_at n i below within)

@@ -1,6 +1,6 @@
 -- The field's numbers are a commutative ring under `sum`, `product` and `negative`.
 use Rattle.std.proofs.Common.{ℕ, ◌≡◌, ◌<◌, ◌≤◌, ◌+◌, ◌*◌, ◌-◌, ◌%◌, sym, ◌∙◌, ap, arith}
-use Rattle.std.proofs.Math.Nat.{mod-lt, mod-eq_of_lt, mod-mod, mod-add-mod, add-mod-mod, mod_self, add-mod_right, add_comm, add_assoc, mul_comm, mul_assoc, mul-add}
+use Rattle.std.proofs.Math.Nat.{mod-eq_of_lt, mod-mod, mod-add-mod, add-mod-mod, mod_self, add_comm, add_assoc, mul_comm, mul_assoc, mul-add}
 use Rattle.std.proofs.lemmas.Nat.{mul-mod_first, mul-mod_second}
 use Rattle.felt64.specs.Field.{modulus, sum, difference, product, negative}
 

@@ -1,4 +1,4 @@
-use Rattle.std.proofs.Common.{arith, ◌≡◌, ◌∙◌, ◌<◌, ℕ, ap, sym, decimal}
+use Rattle.std.proofs.Common.{arith, ◌≡◌, ◌∙◌, ◌<◌, ap, sym, decimal}
 use Rattle.std.specs.Str.Parse.{digits_value}
 use Rattle.felt64.specs.Field.{modulus}
 use Rattle.felt64.proofs.DecimalLaws.{refused, not_both, decimal_is_decimal_text, decimal-digits_value, digits_value-decimal, digits_value-decimal_text, decimal_text-digits_value}

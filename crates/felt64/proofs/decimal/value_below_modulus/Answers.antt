@@ -1,6 +1,5 @@
-use Rattle.std.proofs.Common.{arith, ◌≡◌, ◌+◌, ◌*◌, ◌-◌, ◌<◌, ◌≤◌, ℕ, take, get_or, lit≤}
+use Rattle.std.proofs.Common.{arith, ◌≡◌, ◌+◌, ◌*◌, ◌-◌, ◌<◌, get_or, lit≤}
 use Rattle.felt64.specs.Field.{modulus}
-use Rattle.std.specs.Str.Parse.{digits_value}
 use Rattle.std.proofs.lemmas.Str.Parse.{digit_at, digits_value-take-le}
 use Rattle.felt64.proofs.DecimalLaws.{value_more}
 use Rattle.felt64.proofs.decimal.value_below_modulus.Goals as goal
