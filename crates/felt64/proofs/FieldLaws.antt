@@ -54,7 +54,8 @@ sum_comm a b = ap (λ n. n % modulus) (add_comm a b)
 
 -- a sum's brackets move
 pub sum_assoc : (a b c : ℕ) → sum (sum a b) c ≡ sum a (sum b c)
-sum_assoc a b c = sum-remainder_left (a + b) c ∙ (ap (λ n. n % modulus) (add_assoc a b c) ∙ sym (sum-remainder_right a (b + c)))
+sum_assoc a b c =
+    sum-remainder_left (a + b) c ∙ (ap (λ n. n % modulus) (add_assoc a b c) ∙ sym (sum-remainder_right a (b + c)))
 
 -- 0 on the right adds nothing
 pub sum-zero : (a : ℕ) → a < modulus → sum a 0 ≡ a
@@ -86,7 +87,9 @@ product_comm a b = ap (λ n. n % modulus) (mul_comm a b)
 
 -- a product's brackets move
 pub product_assoc : (a b c : ℕ) → product (product a b) c ≡ product a (product b c)
-product_assoc a b c = product-remainder_left (a * b) c ∙ (ap (λ n. n % modulus) (mul_assoc a b c) ∙ sym (product-remainder_right a (b * c)))
+product_assoc a b c =
+    product-remainder_left (a * b) c
+    ∙ (ap (λ n. n % modulus) (mul_assoc a b c) ∙ sym (product-remainder_right a (b * c)))
 
 -- 1 on the right multiplies nothing
 pub product-one : (a : ℕ) → a < modulus → product a 1 ≡ a
