@@ -285,3 +285,16 @@ module _ (cells : ℕ → Option ℕ) (s : State) where
   pub err_stops : (r : Result State StepFault) → r ≡ step_of cells s → IfErr r (Stops cells s)
   err_stops (Ok to) is = tt
   err_stops (Err fault) is = stops_from fault (sym is)
+
+  -- each state either steps or stops
+  pub step_or_stops : ((to : State) × Step cells s to) ⊎ ((fault : StepFault) × Stops cells s fault)
+  step_or_stops =
+      elim (step_of cells s) as (λ r. step_of cells s ≡ r → ((to : State) × Step cells s to) ⊎ ((fault : StepFault) × Stops cells s fault)) [
+        | Ok to ↦ λ is. inl (to, step_from to is)
+        | Err fault ↦ λ is. inr (fault, stops_from fault is)
+      ] refl
+
+  -- so what `step` ensures of its result says which fault it gives
+  pub fault_is_stops : (r : Result State StepFault) → ((to : State) → (r ≡ Ok to) ↔ Step cells s to) → IfErr r (Stops cells s) → (fault : StepFault) → (r ≡ Err fault) ↔ Stops cells s fault
+  fault_is_stops (Ok to) steps stops fault = (λ is. cc, λ stopped. absurd (stops_no_step to fault stopped ((steps to).0 refl)))
+  fault_is_stops (Err first) steps stops fault = (λ is. let same : first ≡ fault = cc in subst (Stops cells s) same stops, λ stopped. ap Err (stops_functional first fault stops stopped))

@@ -95,7 +95,8 @@ next_state f s op0 op1 dst =
       fp = fp_after f.opcode s dst;
     }
 
--- the machine steps from s to t
+-- The machine steps from s to t: the word at pc is listed and stands for flags, the four words are read, what the
+-- opcode asserts holds, and t is the state behind it. A state of which one part fails has no step.
 pub record Step (cells : ℕ → Option ℕ) (s t : State) : Type 0 where
   pub word : ℕ
   pub word_is : cells s.pc ≡ Some word

@@ -87,7 +87,10 @@ impl Memory {
         ensures same { map.get self.old addr ≡ Some word → result ≡ Ok tt }
     {
         match search(&self.cells, addr) {
-            Ok(at) => same(self.cells[at].1, word),
+            Ok(at) => {
+                let had = self.cells[at].1;
+                same(had, word)
+            }
             Err(at) => Ok(self.cells.insert(at, (addr, word))?),
         }
     }
