@@ -7,7 +7,7 @@ mod reading;
 mod refusal;
 mod run;
 
-pub use reading::read;
+pub use reading::{one_run, read, reads_exactly};
 pub use refusal::FileRefusal;
 pub use run::{Run, States};
 
