@@ -1,20 +1,20 @@
 -- The decimal texts: each number has one, and no two numbers have the same.
-use Rattle.std.proofs.Common.{ℕ, zero, suc, ◌≡◌, ◌≢◌, ◌<◌, ◌≤◌, ◌+◌, ◌*◌, ◌-◌, ◌/◌, ◌%◌, ◌^◌, ◌⊎◌, List, [], ◌∷◌, ◌++◌, length, get_or, take, map, refl, sym, ◌∙◌, ap, subst, inl, inr, arith, add-one, lit≤}
+use Rattle.std.proofs.Common.{ℕ, zero, suc, ◌≡◌, ◌≢◌, ◌<◌, ◌≤◌, ◌+◌, ◌*◌, ◌-◌, ◌/◌, ◌%◌, ◌^◌, List, [], ◌∷◌, ◌++◌, length, get_or, take, map, refl, sym, ◌∙◌, ap, inl, inr, arith, add-one, lit≤}
 use Rattle.std.specs.Prelude.{decimal}
 use Rattle.std.specs.Char.{digit_value, IsAsciiDigit}
 use Rattle.std.specs.Int.Digits.{digits_of, number_from_digits, AllBelowBase}
-use Rattle.std.specs.List.{Any}
-use Rattle.std.specs.Str.Parse.{AllDigits, IsNumeral, digits_value}
+use Rattle.std.specs.List.{All}
+use Rattle.std.specs.Str.Parse.{AllDigits, digits_value}
 use Rattle.std.proofs.lemmas.Bool.{cases_eq, ne_eqb}
 use Rattle.std.proofs.lemmas.Int.Digits.{digits_of_step, first_digits_of, all_below_base_digits_of, number_digits_of, number_more, digits_value_is, digits_value_more, all_below_base_from_digits}
-use Rattle.std.proofs.lemmas.Nat.{mod-mul-add}
 use Rattle.std.proofs.lemmas.List.{take_more, map-append}
+use Rattle.std.proofs.lemmas.List.Elements.{All-from_get_or}
 use Rattle.std.proofs.Math.Seq.{take-length}
 use Rattle.std.proofs.lemmas.Fmt.{decimal_by_steps_wide}
 use Rattle.std.proofs.lemmas.Str.{digit_value_digit}
 use Rattle.std.proofs.lemmas.Str.Parse.{digit_from_value, digit_at}
-use Rattle.std.proofs.lemmas.Grind.{common_steps, get_or_default_zero}
-use Rattle.felt64.specs.Decimal.{decimal_text, IsDecimal, IsNotDigits, HasNonDigit, HasLeadingZero}
+use Rattle.std.proofs.lemmas.Grind.{get_or_default_zero}
+use Rattle.felt64.specs.Decimal.{decimal_text, IsDecimal, IsNotDigits}
 
 -- a digit's byte has the digit's value
 digit_value-glyph : (digit : ℕ) → digit < 10 → digit_value (48 + digit) ≡ digit
@@ -55,7 +55,8 @@ record IsOwnDigits (digits : List ℕ) (i : ℕ) : Type 0 where
   own : digits_of 10 (number_from_digits 10 (take i digits)) ≡ take i digits
   above : 0 < i → 0 < number_from_digits 10 (take i digits)
 
-own_digits_more : (digits : List ℕ) (i : ℕ) → get_or digits i 0 < 10 → 0 < get_or digits 0 0 → i < length digits → IsOwnDigits digits i → IsOwnDigits digits (i + 1)
+own_digits_more : (digits : List ℕ) (i : ℕ) → get_or digits i 0 < 10 → 0 < get_or digits 0 0 → i < length digits →
+    IsOwnDigits digits i → IsOwnDigits digits (i + 1)
 own_digits_more digits i low first within before =
     let value = number_more 10 digits i within in
     let longer = take_more digits i 0 within in
@@ -65,10 +66,12 @@ own_digits_more digits i low first within before =
     let own = before.own in
     record { own = cc; above = λ _. rw value above }
 
-own_digits : (digits : List ℕ) → AllBelowBase 10 digits → 0 < get_or digits 0 0 → (i : ℕ) → i ≤ length digits → IsOwnDigits digits i
+own_digits : (digits : List ℕ) → AllBelowBase 10 digits → 0 < get_or digits 0 0 → (i : ℕ) → i ≤ length digits →
+    IsOwnDigits digits i
 own_digits digits all first zero within = record { own = refl; above = λ h. absurd (omega arith) }
 own_digits digits all first (suc i) within =
-    rw (← add-one) (own_digits_more digits i (digit_below digits all i within) first within (own_digits digits all first i (omega arith)))
+    let before = own_digits digits all first i (omega arith) in
+    rw (← add-one) (own_digits_more digits i (digit_below digits all i within) first within before)
 
 -- a text that is no number is not also one
 pub not_both : (text : List ℕ) → IsDecimal text → IsNotDigits text → ⊥
@@ -89,7 +92,8 @@ unfolding decimal_text
 decimal_text-above n above = rw (ne_eqb n 0 (λ e. omega arith)) refl
 
 -- the text of digits of which the first is above 0 is decimal
-is_decimal-map : (digits : List ℕ) → AllBelowBase 10 digits → 0 < get_or digits 0 0 → IsDecimal (map (λ digit. 48 + digit) digits)
+is_decimal-map : (digits : List ℕ) → AllBelowBase 10 digits → 0 < get_or digits 0 0 →
+    IsDecimal (map (λ digit. 48 + digit) digits)
 is_decimal-map [] all first = absurd (omega arith)
 is_decimal-map (d ∷ rest) all first = record {
   digits = (omega arith, all_digits-map (d ∷ rest) all);
@@ -115,7 +119,8 @@ digits_value-decimal_text n = elim (cases_eq n 0) [
 ]
 
 -- a text whose first digit is above 0 is the text of its value
-decimal_text-digits_value_first : (first : ℕ) (rest : List ℕ) → AllDigits 10 (first ∷ rest) → first ≢ 48 → decimal_text (digits_value 10 (first ∷ rest)) ≡ first ∷ rest
+decimal_text-digits_value_first : (first : ℕ) (rest : List ℕ) → AllDigits 10 (first ∷ rest) → first ≢ 48 →
+    decimal_text (digits_value 10 (first ∷ rest)) ≡ first ∷ rest
 decimal_text-digits_value_first first rest all some =
     let digits : List ℕ = map digit_value (first ∷ rest) in
     let low = all_below_base_from_digits 10 (first ∷ rest) all in
@@ -138,7 +143,8 @@ decimal_text-digits_value (first ∷ []) is = elim (cases_eq first 48) [
   | inr some ↦ decimal_text-digits_value_first first [] is.digits.1 some
 ]
 decimal_text-digits_value (first ∷ second ∷ rest) is =
-    decimal_text-digits_value_first first (second ∷ rest) is.digits.1 (λ leads. let one = is.no_leading_zero leads in omega arith)
+    let some : first ≢ 48 = λ leads. let one = is.no_leading_zero leads in omega arith in
+    decimal_text-digits_value_first first (second ∷ rest) is.digits.1 some
 
 -- no two numbers have the same text
 pub decimal_text_injective : (m n : ℕ) → decimal_text m ≡ decimal_text n → m ≡ n
@@ -183,8 +189,32 @@ pub digits_value-decimal : (n : ℕ) → n < 10 ^ 64 → digits_value 10 (decima
 digits_value-decimal n below = ap (digits_value 10) (decimal_is_decimal_text n below) ∙ digits_value-decimal_text n
 
 -- the value of the first digits, and one more
-pub value_more : (text : List ℕ) (i value : ℕ) → AllDigits 10 text → i < length text → value ≡ digits_value 10 (take i text) → value * 10 + (get_or text i 0 - 48) ≡ digits_value 10 (take (i + 1) text)
+pub value_more : (text : List ℕ) (i value : ℕ) → AllDigits 10 text → i < length text →
+    value ≡ digits_value 10 (take i text) →
+    value * 10 + (get_or text i 0 - 48) ≡ digits_value 10 (take (i + 1) text)
 value_more text i value all within same =
     let more = digits_value_more 10 text i within in
     let byte = digit_value_digit (get_or text i 0) (digit_at text i all within) in
     omega (arith, more, byte, same)
+
+-- no two numbers with at most 64 digits have the same `decimal`
+pub decimal_injective : (m n : ℕ) → m < 10 ^ 64 → n < 10 ^ 64 → decimal m ≡ decimal n → m ≡ n
+decimal_injective m n m_below n_below same =
+    sym (digits_value-decimal m m_below) ∙ (ap (digits_value 10) same ∙ digits_value-decimal n n_below)
+
+-- std's `decimal` is a decimal text
+pub is_decimal-decimal : (n : ℕ) → n < 10 ^ 64 → IsDecimal (decimal n)
+is_decimal-decimal n below = rw (decimal_is_decimal_text n below) (is_decimal-decimal_text n)
+
+-- std's `decimal` has a first byte
+pub decimal_nonempty : (n : ℕ) → n < 10 ^ 64 → 0 < length (decimal n)
+decimal_nonempty n below = (is_decimal-decimal n below).digits.0
+
+-- each byte of std's `decimal` is a digit
+pub decimal_digit_at : (n i : ℕ) → n < 10 ^ 64 → i < length (decimal n) →
+    (48 ≤ get_or (decimal n) i 0) × (get_or (decimal n) i 0 ≤ 57)
+decimal_digit_at n i below within = digit_at (decimal n) i (is_decimal-decimal n below).digits.1 within
+
+-- the same, of all its bytes
+pub decimal_all_digits : (n : ℕ) → n < 10 ^ 64 → All IsAsciiDigit (decimal n)
+decimal_all_digits n below = All-from_get_or IsAsciiDigit (decimal n) 0 (λ i within. decimal_digit_at n i below within)

@@ -1,10 +1,10 @@
 -- The decimal texts of the natural numbers, of any length.
-use Rattle.std.specs.Prelude.{ℕ, ◌+◌, ◌≡◌, ◌<◌, ◌≤◌, ◌⊎◌, List, [], ◌∷◌, length, slice_index, map, Any, ◌==◌, if◌then◌else◌}
+use Rattle.std.specs.Prelude.{ℕ, ◌+◌, ◌≡◌, ◌<◌, ◌⊎◌, List, [], ◌∷◌, length, slice_index, map, Any, ◌==◌, if◌then◌else◌}
 use Rattle.std.specs.Char.{IsAsciiDigit}
 use Rattle.std.specs.Int.Digits.{digits_of}
 use Rattle.std.specs.Str.Parse.{IsNumeral}
 
--- n in decimal: std's `decimal` at each n below 10 ^ 64, of which alone that one speaks
+-- n in decimal, of any length: std's `decimal` is the same below 10 ^ 64, and the last 64 digits alone from there on
 unfoldable pub decimal_text : ℕ → List ℕ
 decimal_text n = if n == 0 then 48 ∷ [] else map (λ digit. 48 + digit) (digits_of 10 n)
 

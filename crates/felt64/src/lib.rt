@@ -5,12 +5,14 @@
 //! the machine that runs it, and the readers and writers of its files.
 #![tactic(auto)]
 
-ghost use Rattle.std.specs.Prelude.{◌≡◌, ◌<◌, ◌≤◌, ◌↔◌, ◌*◌, ◌+◌, ◌/◌, ◌%◌, ◌^◌, ℕ, IfOk, IsErrOf, OnErr, Some, decimal};
+ghost use Rattle.std.specs.Prelude.{◌≡◌, ◌<◌, ◌≤◌, ◌↔◌, ◌/◌, ◌%◌, ◌^◌, ℕ, IfOk, IsErrOf, Some, decimal};
 ghost use Rattle.std.specs.Option.{SomeIff};
 ghost use Rattle.felt64.specs.Field.{modulus, sum, difference, product, negative};
 ghost use Rattle.felt64.specs.Decimal.{decimal_text, IsNotDigits};
 
 mod decimal;
+#[cfg(test)]
+mod tests;
 
 use std::fmt;
 use std::marker::Model;
@@ -102,7 +104,7 @@ impl Felt {
         ensures { result ≡ n % modulus }
     {
         Felt {
-            value: if n < MODULUS { n } else { n - MODULUS },
+            value: n.checked_sub(MODULUS).unwrap_or(n),
         }
     }
 
@@ -123,14 +125,14 @@ impl Felt {
     }
 
     /// The sum in the field.
-    pub fn add(self, o: Felt) -> Felt
-        ensures { result ≡ sum self o }
+    pub fn add(self, other: Felt) -> Felt
+        ensures { result ≡ sum self other }
     {
         // What `self` lacks to the order once `o` is added: no sum here can overflow.
-        let gap = MODULUS - o.value;
+        let gap = MODULUS - other.value;
         Felt {
             value: if self.value < gap {
-                self.value + o.value
+                self.value + other.value
             } else {
                 self.value - gap
             },
@@ -138,23 +140,23 @@ impl Felt {
     }
 
     /// The difference in the field.
-    pub fn sub(self, o: Felt) -> Felt
-        ensures { result ≡ difference self o }
+    pub fn sub(self, other: Felt) -> Felt
+        ensures { result ≡ difference self other }
     {
         Felt {
-            value: if self.value < o.value {
-                self.value + (MODULUS - o.value)
+            value: if self.value < other.value {
+                self.value + (MODULUS - other.value)
             } else {
-                self.value - o.value
+                self.value - other.value
             },
         }
     }
 
     /// The product in the field.
-    pub fn mul(self, o: Felt) -> Felt
-        ensures { result ≡ product self o }
+    pub fn mul(self, other: Felt) -> Felt
+        ensures { result ≡ product self other }
     {
-        Felt::reduce(self.value as u128 * o.value as u128)
+        Felt::reduce(self.value as u128 * other.value as u128)
     }
 
     /// The negative in the field.
@@ -183,7 +185,6 @@ impl fmt::Display for Felt {
     ghost output = { λ a. Some (decimal a) };
 
     fn fmt<W: fmt::Write>(&self, f: &mut fmt::Formatter<W>) -> fmt::Result {
-        let value = self.value;
-        write!(f, "{value}")
+        fmt::Display::fmt(&self.value, f)
     }
 }

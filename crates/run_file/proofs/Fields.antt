@@ -1,6 +1,6 @@
 -- A field that is read is the field that was written, and what was written is read again.
-use Rattle.std.proofs.Common.{◌≡◌, ℕ, zero, suc, ◌+◌, ◌-◌, ◌^◌, ◌<◌, ◌≤◌, Bool, true, false, cond, ltb, List, [], ◌∷◌, ◌++◌, length, get_or, take, drop, Result, Ok, Err, refl, sym, ap, subst, ◌∙◌, append_assoc, arith, inl, inr}
-use Rattle.std.specs.Int.{w64, from_le_bytes, to_le_bytes}
+use Rattle.std.proofs.Common.{◌≡◌, ℕ, ◌+◌, ◌^◌, ◌<◌, ◌≤◌, Bool, true, false, cond, ltb, List, ◌++◌, length, get_or, take, drop, Result, Ok, Err, refl, sym, ap, subst, ◌∙◌, append_assoc, arith, inl, inr}
+use Rattle.std.specs.Int.{w64, from_le_bytes}
 use Rattle.std.proofs.lemmas.Bool.{cases_lt, ltb-true, ltb-false, lt-ltb, le-ltb}
 use Rattle.std.proofs.lemmas.Bool.Decides.{Decides-eqb}
 use Rattle.std.proofs.lemmas.List.{take_at, drop_at, take-append-drop, length-append, length-take, get_or-drop, get_or-take, get_or_past}
@@ -135,12 +135,14 @@ steps_again size n rest lt =
 
 -- ---- cells
 
-address_takes : (size least : ℕ) (bytes : List ℕ) (x : ℕ × List ℕ) → IsBytes bytes → address_at size least bytes ≡ Ok x → Takes bytes (number x.0) x.1 × (x.0 < modulus)
+address_takes : (size least : ℕ) (bytes : List ℕ) (x : ℕ × List ℕ) → IsBytes bytes → address_at size least bytes ≡ Ok x → Takes bytes (number x.0) x.1 × (x.0 < modulus) × (least ≤ x.0)
 unfolding address_at
 address_takes size least bytes x fits e =
     let a = bind_ok (word_at size bytes) (λ n. cond (ltb n.0 least) (Err (refusals.Order (offset_of size bytes))) (Ok n)) x e in
     let g = guard_ok (ltb a.0.0 least) (refusals.Order (offset_of size bytes)) a.0 x a.2 in
-    subst (λ (y : ℕ × List ℕ). Takes bytes (number y.0) y.1 × (y.0 < modulus)) g.1 (word_takes size bytes a.0 fits a.1)
+    let t = word_takes size bytes a.0 fits a.1 in
+    let le : least ≤ a.0.0 = ltb-false _ _ g.0 in
+    subst (λ (y : ℕ × List ℕ). Takes bytes (number y.0) y.1 × (y.0 < modulus) × (least ≤ y.0)) g.1 (t.0, t.1, le)
 
 address_again : (size least n : ℕ) (rest : List ℕ) → n < modulus → least ≤ n → address_at size least (number n ++ rest) ≡ Ok (n, rest)
 unfolding address_at
@@ -148,7 +150,7 @@ address_again size least n rest lt le =
     let above : ltb n least ≡ false = le-ltb _ _ le in
     rw (word_again size n rest lt, above) refl
 
-pub cell_takes : (size least : ℕ) (bytes : List ℕ) (x : (ℕ × ℕ) × List ℕ) → IsBytes bytes → cell_at size least bytes ≡ Ok x → Takes bytes (cell x.0) x.1 × IsCell x.0
+pub cell_takes : (size least : ℕ) (bytes : List ℕ) (x : (ℕ × ℕ) × List ℕ) → IsBytes bytes → cell_at size least bytes ≡ Ok x → Takes bytes (cell x.0) x.1 × IsCell x.0 × (least ≤ x.0.0)
 unfolding cell_at
 cell_takes size least bytes x fits e =
     let a = bind_ok (address_at size least bytes) (λ address. word_at size address.1 >>= λ word. Ok ((address.0, word.0), word.1)) x e in
@@ -157,7 +159,7 @@ cell_takes size least bytes x fits e =
     let t1 = word_takes size a.0.1 b.0 t0.0.rest_fits b.1 in
     let both = Takes-then bytes (number a.0.0) a.0.1 (number b.0.0) b.0.1 t0.0 t1.0 in
     let made : (ℕ × ℕ) × List ℕ = ((a.0.0, b.0.0), b.0.1) in
-    subst (λ (y : (ℕ × ℕ) × List ℕ). Takes bytes (cell y.0) y.1 × IsCell y.0) (ok_is made x b.2) (both, (t0.1, t1.1))
+    subst (λ (y : (ℕ × ℕ) × List ℕ). Takes bytes (cell y.0) y.1 × IsCell y.0 × (least ≤ y.0.0)) (ok_is made x b.2) (both, (t0.1, t1.1), t0.2)
 
 pub cell_again : (size least : ℕ) (c : ℕ × ℕ) (rest : List ℕ) → IsCell c → least ≤ c.0 → cell_at size least (cell c ++ rest) ≡ Ok (c, rest)
 unfolding cell_at

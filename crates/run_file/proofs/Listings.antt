@@ -1,6 +1,5 @@
 -- The two laws: what is read is spelled so, and what is spelled so is read.
-use Rattle.std.proofs.Common.{◌≡◌, ℕ, zero, suc, ◌+◌, ◌-◌, ◌^◌, ◌<◌, ◌≤◌, Bool, true, false, cond, eqb, List, [], ◌∷◌, ◌++◌, length, Result, Ok, Err, refl, sym, ap, subst, ◌∙◌, append_assoc, arith}
-use Rattle.std.specs.Prelude.{IfOk}
+use Rattle.std.proofs.Common.{◌≡◌, ℕ, zero, suc, ◌+◌, ◌-◌, cond, eqb, List, [], ◌∷◌, ◌++◌, length, Result, Ok, Err, refl, sym, ap, subst, ◌∙◌, append_assoc, arith}
 use Rattle.std.specs.List.{flat_map, AllByRecursion}
 use Rattle.std.proofs.lemmas.Bool.{eqb-true}
 use Rattle.std.proofs.lemmas.List.{append-nil, nil_from_length}
@@ -13,10 +12,10 @@ use Rattle.run_file.specs.Reading.{◌>>=◌, offset_of, after_magic, number_at,
 use Rattle.run_file.proofs.Order.{IsRisingFrom}
 use Rattle.run_file.proofs.Fields.{IsBytes, bind_ok, guard_passed, ok_is, Takes, Takes-then, magic_takes, magic_again, number_takes, number_again, word_takes, word_again, steps_takes, steps_again, cell_takes, cell_again, state_takes, state_again}
 
-cells_take : (size least n : ℕ) (bytes : List ℕ) (x : List (ℕ × ℕ) × List ℕ) → IsBytes bytes → cells_at size least n bytes ≡ Ok x → Takes bytes (flat_map cell x.0) x.1 × (length x.0 ≡ n) × AllByRecursion IsCell x.0
+cells_take : (size least n : ℕ) (bytes : List ℕ) (x : List (ℕ × ℕ) × List ℕ) → IsBytes bytes → cells_at size least n bytes ≡ Ok x → Takes bytes (flat_map cell x.0) x.1 × (length x.0 ≡ n) × AllByRecursion IsCell x.0 × IsRisingFrom least x.0
 unfolding cells_at
 cells_take size least zero bytes x fits e =
-    subst (λ (y : List (ℕ × ℕ) × List ℕ). Takes bytes (flat_map cell y.0) y.1 × (length y.0 ≡ 0) × AllByRecursion IsCell y.0) (ok_is ([], bytes) x e) (record { parts = refl; rest_fits = fits }, refl, tt)
+    subst (λ (y : List (ℕ × ℕ) × List ℕ). Takes bytes (flat_map cell y.0) y.1 × (length y.0 ≡ 0) × AllByRecursion IsCell y.0 × IsRisingFrom least y.0) (ok_is ([], bytes) x e) (record { parts = refl; rest_fits = fits }, refl, tt, tt)
 cells_take size least (suc n) bytes x fits e =
     let a = bind_ok (cell_at size least bytes) (λ first. cells_at size (first.0.0 + 1) n first.1 >>= λ others. Ok (first.0 ∷ others.0, others.1)) x e in
     let b = bind_ok (cells_at size (a.0.0.0 + 1) n a.0.1) (λ others. Ok (a.0.0 ∷ others.0, others.1)) x a.2 in
@@ -24,7 +23,7 @@ cells_take size least (suc n) bytes x fits e =
     let second = cells_take size (a.0.0.0 + 1) n a.0.1 b.0 first.0.rest_fits b.1 in
     let both = Takes-then bytes (cell a.0.0) a.0.1 (flat_map cell b.0.0) b.0.1 first.0 second.0 in
     let made : List (ℕ × ℕ) × List ℕ = (a.0.0 ∷ b.0.0, b.0.1) in
-    subst (λ (y : List (ℕ × ℕ) × List ℕ). Takes bytes (flat_map cell y.0) y.1 × (length y.0 ≡ suc n) × AllByRecursion IsCell y.0) (ok_is made x b.2) (rw flat_map-cons both, ap suc second.1, (first.1, second.2))
+    subst (λ (y : List (ℕ × ℕ) × List ℕ). Takes bytes (flat_map cell y.0) y.1 × (length y.0 ≡ suc n) × AllByRecursion IsCell y.0 × IsRisingFrom least y.0) (ok_is made x b.2) (rw flat_map-cons both, ap suc second.1, (first.1, second.2), (first.2, second.3))
 
 cells_again : (size least : ℕ) (cells : List (ℕ × ℕ)) (rest : List ℕ) → AllByRecursion IsCell cells → IsRisingFrom least cells → cells_at size least (length cells) (flat_map cell cells ++ rest) ≡ Ok (cells, rest)
 unfolding cells_at
@@ -74,7 +73,7 @@ module _ (size : ℕ) where
   abbrev to_rc : List ℕ → Result Listing FileRefusal
   to_rc rest = word_at size rest >>= to_count
 
-pub listing_takes : (bytes : List ℕ) (l : Listing) → IsBytes bytes → listing_of bytes ≡ Ok l → IsListing l × (bytes ≡ listing_spelling l)
+pub listing_takes : (bytes : List ℕ) (l : Listing) → IsBytes bytes → listing_of bytes ≡ Ok l → IsListing l × (bytes ≡ listing_spelling l) × IsRisingFrom 0 l.cells
 unfolding listing_of
 listing_takes bytes l fits e =
     let size : ℕ = length bytes in
@@ -113,7 +112,7 @@ listing_takes bytes l fits e =
       some_state = omega (arith, t5.1);
       state_count = omega (arith, t5.1, t4.1);
     } in
-    subst (λ (m : Listing). IsListing m × (bytes ≡ listing_spelling m)) h.1 (is_listing, whole)
+    subst (λ (m : Listing). IsListing m × (bytes ≡ listing_spelling m) × IsRisingFrom 0 m.cells) h.1 (is_listing, whole, t3.3)
 
 -- the fields of a file one after the other
 reads : (bytes b0 b1 b2 b3 b4 : List ℕ) (rc count steps : ℕ) (cells : List (ℕ × ℕ)) (states : List State)

@@ -1,6 +1,6 @@
 -- Cells in order of address: as a list that rises, and as a map that a cell above all others is put into.
-use Rattle.std.proofs.Common.{◌≡◌, ℕ, ◌+◌, ◌<◌, ◌≤◌, Bool, true, false, cond, ◌&&◌, T, List, [], ◌∷◌, ◌++◌, Option, Some, None, refl, sym, ap, ◌∙◌, arith}
-use Rattle.std.specs.Ordering.{nat_cmp, eq_by_cmp, is_lt}
+use Rattle.std.proofs.Common.{◌≡◌, ℕ, ◌+◌, ◌<◌, ◌≤◌, Bool, true, false, ◌&&◌, T, List, [], ◌∷◌, ◌++◌, None, refl, sym, ◌∙◌, arith}
+use Rattle.std.specs.Ordering.{nat_cmp, is_lt}
 use Rattle.std.specs.Cmp.{nat_cmp_total}
 use Rattle.std.specs.FinMap.{find, put, is_sorted, entries, entries_sorted, insert, entries-insert, get, get-entries, get-insert, get-empty, empty, len-entries, len-empty}
 use Rattle.std.specs.FinMap.Entries.{below_all}
@@ -24,6 +24,9 @@ right false b h = absurd h
 above : (x y : ℕ) → T (is_lt (nat_cmp x y)) → x + 1 ≤ y
 above x y h = grind (arith, nat_tests, h)
 
+is_below : (x y : ℕ) → x < y → T (is_lt (nat_cmp x y))
+is_below x y lt = grind (arith, nat_tests)
+
 rising_above : (x : ℕ) (cells : List (ℕ × ℕ)) → T (below_all nat_cmp x cells) → T (is_sorted nat_cmp cells) → IsRisingFrom (x + 1) cells
 rising_above x [] below sorted = tt
 rising_above x (cell ∷ cells) below sorted = (above x cell.0 (left _ _ below), rising_above cell.0 cells (left _ _ sorted) (right _ _ sorted))
@@ -31,6 +34,18 @@ rising_above x (cell ∷ cells) below sorted = (above x cell.0 (left _ _ below),
 rising_from_sorted : (cells : List (ℕ × ℕ)) → T (is_sorted nat_cmp cells) → IsRisingFrom 0 cells
 rising_from_sorted [] sorted = tt
 rising_from_sorted (cell ∷ cells) sorted = (omega arith, rising_above cell.0 cells (left _ _ sorted) (right _ _ sorted))
+
+both : (a b : Bool) → T a → T b → T (a && b)
+both true b x y = y
+both false b x y = x
+
+below_from_rising : (x least : ℕ) (cells : List (ℕ × ℕ)) → x < least → IsRisingFrom least cells → T (below_all nat_cmp x cells)
+below_from_rising x least [] lt rising = tt
+below_from_rising x least (cell ∷ cells) lt rising = both _ _ (is_below x cell.0 (omega (arith, rising.0))) (below_from_rising x (cell.0 + 1) cells (omega (arith, rising.0)) rising.1)
+
+pub sorted_from_rising : (least : ℕ) (cells : List (ℕ × ℕ)) → IsRisingFrom least cells → T (is_sorted nat_cmp cells)
+sorted_from_rising least [] rising = tt
+sorted_from_rising least (cell ∷ cells) rising = both _ _ (below_from_rising cell.0 (cell.0 + 1) cells (omega arith) rising.1) (sorted_from_rising (cell.0 + 1) cells rising.1)
 
 pub entries_rise : (m : Cells) → IsRisingFrom 0 (entries m)
 entries_rise m = rising_from_sorted (entries m) (entries_sorted m)

@@ -1,5 +1,6 @@
 -- Reading a run file from left to right, with the first refusal that is met.
--- A reader takes the length of the file and the bytes that are left of it, and answers what it read and the bytes after it.
+-- A reader takes the length of the file and the bytes that are left of it,
+-- and answers what it read and the bytes after it.
 use Rattle.std.specs.Prelude.{◌≡◌, ℕ, zero, suc, ◌+◌, ◌-◌, ◌^◌, List, [], ◌∷◌, length, take, drop, Result, Ok, Err, nat_eq, nat_lt, ◌==◌, if◌then◌else◌}
 use Rattle.std.specs.FinMap.{from_sorted}
 use Rattle.std.specs.List.{starts_with}
@@ -30,16 +31,24 @@ abbrev pub Gives : {X Y : Type 0} → (X → Y) → Result X FileRefusal → Res
 Gives view (Ok x) read = read ≡ Ok (view x)
 Gives view (Err e) read = Fails e read
 
+-- The same of a function that leaves these bytes.
+abbrev pub Reads : {X : Type 0} → Result X FileRefusal → List ℕ → Result (X × List ℕ) FileRefusal → Type 0
+Reads result rest read = Gives (λ x. (x, rest)) result read
+
 -- the offset in the file of the bytes that are left
 abbrev pub offset_of : ℕ → List ℕ → ℕ
 offset_of size bytes = size - length bytes
 
 -- A byte that differs from the magic goes before the want of a byte.
 unfoldable pub after_magic : List ℕ → Result (List ℕ) FileRefusal
-after_magic bytes = if starts_with nat_eq bytes magic then Ok (drop 8 bytes) else (if starts_with nat_eq magic bytes then Err (refusals.Cut (length bytes)) else Err refusals.Magic)
+after_magic bytes =
+    if starts_with nat_eq bytes magic then Ok (drop 8 bytes)
+    else (if starts_with nat_eq magic bytes then Err (refusals.Cut (length bytes)) else Err refusals.Magic)
 
 abbrev pub number_at : ℕ → List ℕ → Result (ℕ × List ℕ) FileRefusal
-number_at size bytes = if nat_lt (length bytes) 8 then Err (refusals.Cut size) else Ok (from_le_bytes w64 (take 8 bytes), drop 8 bytes)
+number_at size bytes =
+    if nat_lt (length bytes) 8 then Err (refusals.Cut size)
+    else Ok (from_le_bytes w64 (take 8 bytes), drop 8 bytes)
 
 unfoldable pub word_at : ℕ → List ℕ → Result (ℕ × List ℕ) FileRefusal
 word_at size bytes = do
@@ -94,7 +103,9 @@ listing_of bytes = do
   cells ← cells_at (length bytes) 0 count.0 count.1
   steps ← steps_at (length bytes) cells.1
   states ← states_at (length bytes) (steps.0 + 1) steps.1
-  if length states.1 == 0 then Ok (record { rc = rc.0; cells = cells.0; states = states.0 }) else Err (refusals.Extra (offset_of (length bytes) states.1))
+  if length states.1 == 0
+      then Ok (record { rc = rc.0; cells = cells.0; states = states.0 })
+      else Err (refusals.Extra (offset_of (length bytes) states.1))
 
 abbrev pub run_of : Listing → Run
 run_of l = record { rc = l.rc; memory = from_sorted l.cells; states = l.states }

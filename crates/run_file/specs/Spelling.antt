@@ -1,5 +1,5 @@
 -- What a run file holds, and the one spelling of each run.
-use Rattle.std.specs.Prelude.{ℕ, ◌+◌, ◌-◌, ◌<◌, ◌≤◌, ◌^◌, List, ◌++◌, length, codes}
+use Rattle.std.specs.Prelude.{ℕ, ◌-◌, ◌<◌, ◌≤◌, ◌^◌, List, ◌++◌, length, codes}
 use Rattle.std.specs.FinMap.{entries}
 use Rattle.std.specs.List.{flat_map, AllByRecursion}
 use Rattle.std.specs.Int.{w64, to_le_bytes}
@@ -30,7 +30,10 @@ pub record Listing : Type 0 where
 
 -- the number of steps is one less than that of the states
 abbrev pub listing_spelling : Listing → List ℕ
-listing_spelling l = magic ++ number l.rc ++ number (length l.cells) ++ flat_map cell l.cells ++ number (length l.states - 1) ++ flat_map state l.states
+listing_spelling l =
+    magic ++ number l.rc
+    ++ number (length l.cells) ++ flat_map cell l.cells
+    ++ number (length l.states - 1) ++ flat_map state l.states
 
 abbrev pub IsCell : ℕ × ℕ → Type 0
 IsCell c = (c.0 < modulus) × (c.1 < modulus)

@@ -7,6 +7,9 @@ mod reading;
 mod refusal;
 mod run;
 
-pub use reading::read;
+pub use reading::{one_run, read, reads_exactly};
 pub use refusal::FileRefusal;
 pub use run::{Run, States};
+
+#[cfg(test)]
+mod tests;

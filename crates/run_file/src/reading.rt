@@ -1,10 +1,10 @@
 //! Bytes in, a run out: what the trace check reads a run from.
 
-ghost use Rattle.std.specs.Prelude.{◌≡◌, ◌<◌, ◌≤◌, ◌^◌, None, Ok, IfOk, IfErr, OnOk};
+ghost use Rattle.std.specs.Prelude.{◌≡◌, ◌<◌, ◌≤◌, ◌^◌, ◌↔◌, ℕ, List, All, None, Ok, IfOk, IfErr, OnOk};
 ghost use Rattle.std.specs.FinMap as map;
 ghost use Rattle.run_file.specs.declared.run.Run.{Run};
 ghost use Rattle.run_file.specs.Spelling.{IsRun, listing, spelling};
-ghost use Rattle.run_file.specs.Reading.{Gives, offset_of, after_magic, number_at, word_at, address_at, cell_at, cells_at, steps_at, state_at, states_at, listing_of, reading};
+ghost use Rattle.run_file.specs.Reading.{Gives, Reads, offset_of, after_magic, number_at, word_at, address_at, cell_at, cells_at, steps_at, state_at, states_at, listing_of, reading};
 
 use crate::refusal::FileRefusal;
 use crate::run::{Run, States};
@@ -14,7 +14,7 @@ use std::alloc::Global;
 
 const MAGIC: [u8; 8] = *b"SIERRUN1";
 
-/// Where the bytes that are left begin in a file of this length.
+/// Where the bytes that are left begin in a file of this length, which they don't exceed.
 fn offset_of(size: u64, bytes: &[u8]) -> u64
     ensures { result ≡ offset_of size bytes.now }
 {
@@ -35,9 +35,9 @@ fn after_magic(bytes: &[u8]) -> Result<&[u8], FileRefusal>
     }
 }
 
-/// A number at the front of the rest, which loses it.
+/// A number at the front of the rest, which loses it. The readers below do likewise.
 fn number(size: u64, rest: &mut &[u8]) -> Result<u64, FileRefusal>
-    ensures { Gives (λ n. (n, rest.new.now)) result (number_at size rest.old.now) }
+    ensures { Reads result rest.new.now (number_at size rest.old.now) }
 {
     match rest.split_first_chunk::<8>() {
         Some((front, after)) => {
@@ -50,7 +50,7 @@ fn number(size: u64, rest: &mut &[u8]) -> Result<u64, FileRefusal>
 
 #[tactic(auto, unfolding(crate::specs::Reading::word_at))]
 fn word(size: u64, rest: &mut &[u8]) -> Result<Felt, FileRefusal>
-    ensures { Gives (λ word. (word, rest.new.now)) result (word_at size rest.old.now) }
+    ensures { Reads result rest.new.now (word_at size rest.old.now) }
 {
     let at = offset_of(size, rest);
     match Felt::new(number(size, rest)?) {
@@ -62,7 +62,7 @@ fn word(size: u64, rest: &mut &[u8]) -> Result<Felt, FileRefusal>
 /// An address, which may not be below `least`.
 #[tactic(auto, unfolding(crate::specs::Reading::address_at))]
 fn address(size: u64, least: u64, rest: &mut &[u8]) -> Result<Felt, FileRefusal>
-    ensures read { Gives (λ address. (address, rest.new.now)) result (address_at size least rest.old.now) }
+    ensures read { Reads result rest.new.now (address_at size least rest.old.now) }
     ensures least { IfOk result (λ address. least ≤ address) }
 {
     let at = offset_of(size, rest);
@@ -75,7 +75,7 @@ fn address(size: u64, least: u64, rest: &mut &[u8]) -> Result<Felt, FileRefusal>
 
 #[tactic(auto, unfolding(crate::specs::Reading::cell_at))]
 fn cell(size: u64, least: u64, rest: &mut &[u8]) -> Result<(Felt, Felt), FileRefusal>
-    ensures read { Gives (λ cell. ((cell.0, cell.1), rest.new.now)) result (cell_at size least rest.old.now) }
+    ensures read { Reads result rest.new.now (cell_at size least rest.old.now) }
     ensures least { IfOk result (λ cell. least ≤ cell.0) }
 {
     let address = address(size, least, rest)?;
@@ -95,9 +95,10 @@ fn list(memory: &mut Memory, address: Felt, word: Felt) -> Result<(), FileRefusa
     }
 }
 
-/// So many cells, each above the one before.
+/// So many cells, each above the one before, so each is added in constant time.
 fn cells(alloc: Global, size: u64, count: u64, rest: &mut &[u8]) -> Result<Memory, FileRefusal>
-    ensures { Gives (λ memory. (map.entries memory, rest.new.now)) result (cells_at size 0 count rest.old.now) }
+    ensures { Gives (λ memory. (map.entries memory, rest.new.now)) result
+        (cells_at size 0 count rest.old.now) }
 {
     let mut memory = Memory::new(alloc);
     let mut least = 0;
@@ -112,7 +113,7 @@ fn cells(alloc: Global, size: u64, count: u64, rest: &mut &[u8]) -> Result<Memor
 /// The number of steps.
 #[tactic(auto, unfolding(crate::specs::Reading::steps_at))]
 fn steps(size: u64, rest: &mut &[u8]) -> Result<u64, FileRefusal>
-    ensures read { Gives (λ n. (n, rest.new.now)) result (steps_at size rest.old.now) }
+    ensures read { Reads result rest.new.now (steps_at size rest.old.now) }
     ensures below { IfOk result (λ n. n < 2 ^ 32) }
 {
     let steps = number(size, rest)?;
@@ -124,7 +125,7 @@ fn steps(size: u64, rest: &mut &[u8]) -> Result<u64, FileRefusal>
 
 #[tactic(auto, unfolding(crate::specs::Reading::state_at))]
 fn state(size: u64, rest: &mut &[u8]) -> Result<State, FileRefusal>
-    ensures { Gives (λ state. (state, rest.new.now)) result (state_at size rest.old.now) }
+    ensures { Reads result rest.new.now (state_at size rest.old.now) }
 {
     let pc = word(size, rest)?;
     let ap = word(size, rest)?;
@@ -134,7 +135,7 @@ fn state(size: u64, rest: &mut &[u8]) -> Result<State, FileRefusal>
 
 /// So many states. Room is taken for those that the bytes can hold.
 fn states(alloc: Global, size: u64, count: u64, rest: &mut &[u8]) -> Result<States, FileRefusal>
-    ensures { Gives (λ states. (states, rest.new.now)) result (states_at size count rest.old.now) }
+    ensures { Reads result rest.new.now (states_at size count rest.old.now) }
 {
     let room = count.min(rest.len() as u64 / 24);
     let mut states = Vec::with_capacity(alloc, room as usize)?;
@@ -161,14 +162,30 @@ fn listed(alloc: Global, bytes: &[u8]) -> Result<Run, FileRefusal>
     Ok(Run { rc, memory, states })
 }
 
-/// The run that the bytes spell, all of the bytes. It takes time linear in their number.
+/// The run that the bytes spell, all of the bytes: the file is the magic `SIERRUN1` and then numbers of
+/// eight bytes, the least significant first. They are the end of the range check cells, the count of
+/// cells, the cells with address and word, the count of steps, and the states with pc, ap and fp.
+///
+/// It takes time linear in the number of bytes, and room for no more states than they can hold.
 pub fn read(alloc: Global, bytes: &[u8]) -> Result<Run, FileRefusal>
     // What is read is spelled so.
     ensures found { IfOk result (λ run. IsRun run × (bytes.now ≡ spelling run)) }
     // What is spelled so is read, unless memory runs out.
-    ensures only { (run : Run) → IsRun run → bytes.now ≡ spelling run → Gives (λ r. r) result (Ok run) }
+    ensures only { (run : Run) → IsRun run → bytes.now ≡ spelling run
+        → Gives (λ r. r) result (Ok run) }
     // Which refusal it is.
     ensures exact { Gives (λ r. r) result (reading bytes.now) }
 {
     listed(alloc, bytes)
 }
+
+/// The reading of bytes is the run that they spell, and no other bytes are read.
+pub fn reads_exactly()
+    ensures { (bytes : List ℕ) (run : Run) → All (λ byte. byte < 256) bytes
+        → (reading bytes ≡ Ok run) ↔ (IsRun run × (bytes ≡ spelling run)) }
+{}
+
+/// A file spells one run at most.
+pub fn one_run()
+    ensures { (a b : Run) → IsRun a → IsRun b → spelling a ≡ spelling b → a ≡ b }
+{}

@@ -6,7 +6,8 @@ ghost use Rattle.run_file.specs.declared.refusal.FileRefusal.TheVariants.{Memory
 use std::alloc::{AllocError, AllocFailed};
 use thiserror::Error;
 
-/// The first refusal in byte order, or want of memory. A number is an offset in bytes from the file's start.
+/// The first refusal in byte order, or want of memory.
+/// A number is an offset in bytes from the file's start. `F1` to `F6` are the codes that the tool prints.
 #[derive(Clone, Copy, Debug, PartialEq, Eq, Drop, Error)]
 pub enum FileRefusal {
     /// F1: a byte of the magic differs.

@@ -44,7 +44,7 @@ impl States {
     }
 }
 
-/// A run of the Cairo machine, before it is checked: what it lists, and the states that it went through.
+/// A run of the Cairo machine, before it is checked.
 #[derive(Debug, Drop)]
 pub struct Run {
     /// Where the range check cells end.

@@ -1,5 +1,4 @@
-use Rattle.std.proofs.Common.{arith, get_or}
-use Rattle.std.specs.Int.{IsInRange}
+use Rattle.std.proofs.Common.{arith}
 use Rattle.std.proofs.lemmas.Int.Digits.{digits_more}
 use Rattle.std.proofs.lemmas.Str.{digit_value_digit}
 use Rattle.felt64.proofs.decimal.is_decimal.Goals as goal
@@ -7,5 +6,5 @@ use Rattle.felt64.proofs.decimal.is_decimal.Goals as goal
 pub loop-byte-preserved : goal.loop-byte-preserved
 loop-byte-preserved c =
     digits_more 10 c.args.text.now c.loop-byte.byte-index c.loop-byte-test.true c.loop-byte.invariant
-    (let digit : IsInRange 48 57 (get_or c.args.text.now c.loop-byte.byte-index 0) = c.if-not-is_ascii_digit.ensures.cases in
-    omega (arith, digit.1, digit_value_digit (get_or c.args.text.now c.loop-byte.byte-index 0) digit))
+    (let digit = c.if-not-is_ascii_digit.ensures.cases in
+    omega (arith, digit.1, digit_value_digit _ digit))

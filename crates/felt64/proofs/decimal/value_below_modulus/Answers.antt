@@ -1,6 +1,4 @@
-use Rattle.std.proofs.Common.{arith, ◌≡◌, ◌+◌, ◌*◌, ◌-◌, ◌<◌, ◌≤◌, ℕ, take, get_or, lit≤}
-use Rattle.felt64.specs.Field.{modulus}
-use Rattle.std.specs.Str.Parse.{digits_value}
+use Rattle.std.proofs.Common.{arith, ◌+◌, lit≤}
 use Rattle.std.proofs.lemmas.Str.Parse.{digit_at, digits_value-take-le}
 use Rattle.felt64.proofs.DecimalLaws.{value_more}
 use Rattle.felt64.proofs.decimal.value_below_modulus.Goals as goal
@@ -10,12 +8,11 @@ overflow_sub-byte c = (digit_at c.args.text.now c.loop-byte.byte-index c.require
 
 pub returns-in_err-value : goal.returns-in_err-value
 returns-in_err-value c =
-    let whole = value_more c.args.text.now c.loop-byte.byte-index c.loop-byte.value c.requires.digits.1 c.loop-byte-test.true c.loop-byte.invariant.0 in
+    let whole = value_more _ _ _ c.requires.digits.1 c.loop-byte-test.true c.loop-byte.invariant.0 in
     let kept = digits_value-take-le 10 c.args.text.now (c.loop-byte.byte-index + 1) (lit≤ tt) in
     rw c.from_residual.ensures (λ below. c.in_err-value.ensures (omega arith))
 
 pub loop-byte-preserved : goal.loop-byte-preserved
 loop-byte-preserved c =
-    let whole = value_more c.args.text.now c.loop-byte.byte-index c.loop-byte.value c.requires.digits.1 c.loop-byte-test.true c.loop-byte.invariant.0 in
-    let step : (c.loop-byte.value * 10 + (get_or c.args.text.now c.loop-byte.byte-index 0 - 48) < modulus) × (c.in_ok-value.value ≡ c.loop-byte.value * 10 + (get_or c.args.text.now c.loop-byte.byte-index 0 - 48)) = c.in_ok-value.ensures in
-    (omega arith, omega arith)
+    let whole = value_more _ _ _ c.requires.digits.1 c.loop-byte-test.true c.loop-byte.invariant.0 in
+    (omega (arith, c.in_ok-value.ensures.1), omega (arith, c.in_ok-value.ensures.0, c.in_ok-value.ensures.1))

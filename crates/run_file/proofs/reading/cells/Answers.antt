@@ -1,6 +1,6 @@
-use Rattle.std.proofs.Common.{◌≡◌, ◌≤◌, ◌++◌, ◌∷◌, [], ap, ◌∙◌, subst, arith}
+use Rattle.std.proofs.Common.{◌≤◌, ap, ◌∙◌, arith}
 use Rattle.std.proofs.lemmas.Result.{err_from_is_err_and}
-use Rattle.std.specs.FinMap.{entries, insert}
+use Rattle.std.specs.FinMap.{entries}
 use Rattle.ro_machine.specs.Cells.{NoneFrom}
 use Rattle.run_file.specs.Reading.{cells_at}
 use Rattle.run_file.proofs.Order.{insert_last, none_after, none_at_first, entries-empty}

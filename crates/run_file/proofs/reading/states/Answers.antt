@@ -1,4 +1,3 @@
-use Rattle.std.proofs.Common.{◌≡◌, ◌++◌, ◌∷◌, []}
 use Rattle.std.proofs.lemmas.Result.{err_from_is_err_and}
 use Rattle.run_file.specs.Reading.{states_at}
 use Rattle.run_file.proofs.Loops.{begins, state_goes_on, state_fails, states_done}
