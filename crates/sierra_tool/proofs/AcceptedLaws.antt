@@ -1,12 +1,12 @@
 -- The parts of an accepted run, in terms of the cells and states that a test looks at.
-use Rattle.std.proofs.Common.{◌≡◌, inl, inr, ℕ, ◌+◌, ◌-◌, ◌<◌, ◌≤◌, List, [], ◌∷◌, ◌++◌, length, get_or, Option, Some, None, refl, sym, ◌∙◌, ap, subst, arith}
+use Rattle.std.proofs.Common.{◌≡◌, inl, inr, ℕ, ◌+◌, ◌-◌, ◌<◌, ◌≤◌, List, [], ◌∷◌, ◌++◌, get_or, Option, Some, refl, sym, ◌∙◌, ap, subst, arith}
 use Rattle.std.specs.List.{slice_get}
 use Rattle.std.proofs.lemmas.Bool.{cases_lt}
 use Rattle.std.proofs.lemmas.Option.{get_or_from_slice_get, same_Some}
 use Rattle.felt64.specs.Field.{difference}
 use Rattle.ro_machine.specs.declared.machine.State.{State}
 use Rattle.sierra_tool.specs.Accepted.{Starts}
-use Rattle.sierra_tool.specs.Values.{Value, felt, Stands, StandFor, AreBelow, StandBelow}
+use Rattle.sierra_tool.specs.Values.{felt, Stands, AreBelow, StandBelow}
 
 -- one word that is listed below an address stands there for its number
 pub one_stands_below : (cells : ℕ → Option ℕ) (base n : ℕ) → cells (difference base 1) ≡ Some n → StandBelow cells base (felt n ∷ [])

@@ -141,8 +141,8 @@ fn ends_once(states: &[State]) -> bool
 fn is_range_checked(memory: &Memory, rc: Felt, count: usize) -> bool
     ensures { IsTrue result ↔ IsRangeChecked (get memory.now) rc count }
 {
-    for k in 0..count {
-        if !is_in_range(memory, rc.add(Felt::reduce(k as u128))) {
+    for offset in 0..count {
+        if !is_in_range(memory, rc.add(Felt::reduce(offset as u128))) {
             return false;
         }
     }

@@ -3,5 +3,5 @@ use Rattle.sierra_tool.specs.Accepted.{IsRangeChecked}
 use Rattle.sierra_tool.proofs.accepted.is_range_checked.Given as goal
 
 -- the first cells are in range
-abbrev pub invariant-loop-k : goal.invariant-loop-k
-invariant-loop-k l = IsRangeChecked (get l.memory) l.rc l.k
+abbrev pub invariant-loop-offset : goal.invariant-loop-offset
+invariant-loop-offset l = IsRangeChecked (get l.memory) l.rc l.offset

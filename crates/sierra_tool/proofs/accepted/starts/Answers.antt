@@ -1,9 +1,8 @@
-use Rattle.std.proofs.Common.{◌≡◌, Some, sym, ap, arith}
+use Rattle.std.proofs.Common.{◌≡◌, Some, sym, arith}
 use Rattle.std.specs.List.{slice_get}
 use Rattle.std.specs.FinMap.{get}
 use Rattle.std.proofs.lemmas.Grind.{common_steps}
 use Rattle.sierra_tool.proofs.AcceptedLaws.{starts_with_one, one_from_starts}
-use Rattle.felt64.specs.Field.{difference}
 use Rattle.sierra_tool.proofs.accepted.starts.Goals as goal
 use Rattle.sierra_tool.proofs.accepted.starts.Goals.{then-eq, else-eq}
 
