@@ -1,6 +1,6 @@
 -- What a read of a whole file tells of the file's reading.
-use Rattle.std.proofs.Common.{◌≡◌, ◌≢◌, ℕ, ◌+◌, ◌<◌, ◌≤◌, List, [], length, Option, Some, None, Result, Ok, Err, refl, sym, inl, inr, replicate, arith}
-use Rattle.std.specs.Prelude.{MatchOption, IfOk, alloc_error}
+use Rattle.std.proofs.Common.{◌≡◌, ◌≢◌, ℕ, ◌+◌, ◌<◌, ◌≤◌, List, length, Option, Some, None, Result, Ok, Err, refl, sym, inl, inr, replicate, arith}
+use Rattle.std.specs.Prelude.{MatchOption, IfOk}
 use Rattle.std.specs.declared.alloc.AllocError.{AllocError}
 use Rattle.std.specs.Global.{Vec}
 use Rattle.std.specs.FinMap.{get}
@@ -12,7 +12,6 @@ use Rattle.edge_io.specs.declared.files.ReadFault.TheVariants as faults
 use Rattle.sierra_tool.specs.Answers.{Reading, absent, unread, found, Reads, LeadsTo, file_limit}
 use Rattle.sierra_tool.specs.Refused.{answer_of_fault}
 use Rattle.sierra_tool.specs.declared.answer.Answer.{Answer}
-use Rattle.sierra_tool.specs.declared.answer.Answer.TheVariants as answers
 use Rattle.sierra_tool.specs.declared.command.Source.{Source}
 
 -- what a whole read says of a file

@@ -1,9 +1,9 @@
 -- Whatever an accepted run lists, its three steps give the argument plus the constant.
-use Rattle.std.proofs.Common.{◌≡◌, ◌≢◌, ℕ, ◌+◌, ◌-◌, ◌*◌, ◌%◌, ◌<◌, ◌≤◌, List, [], ◌∷◌, ◌++◌, length, Option, Some, None, slice_get, get_or, Bool, false, refl, sym, ap, subst, ◌∙◌, inl, inr, zero, suc, arith}
-use Rattle.felt64.specs.Field.{modulus, sum, difference, product}
+use Rattle.std.proofs.Common.{◌≡◌, ◌≢◌, ℕ, ◌+◌, ◌-◌, ◌<◌, List, [], ◌∷◌, length, Option, Some, slice_get, get_or, false, refl, sym, ap, subst, ◌∙◌, inl, inr, zero, suc, arith}
+use Rattle.felt64.specs.Field.{modulus, sum, difference}
 use Rattle.ro_machine.specs.declared.machine.State.{State}
 use Rattle.ro_machine.specs.declared.word.Flags.{Flags}
-use Rattle.ro_machine.specs.Word.{Word, flags_of, call_rel, add_immediate, ret}
+use Rattle.ro_machine.specs.Word.{flags_of, call_rel, add_immediate, ret}
 use Rattle.ro_machine.specs.Step.{Step, Operands, Asserts, next_state}
 use Rattle.std.proofs.lemmas.Bool.{cases_lt}
 use Rattle.std.proofs.lemmas.Option.{get_or_from_slice_get}
@@ -11,10 +11,9 @@ use Rattle.felt64.proofs.FieldLaws.{sum_below}
 use Rattle.sierra_tool.specs.Accepted.{Accepts, EndsOnce}
 use Rattle.sierra_tool.specs.Meaning.{code_of, arguments_of, Means, Shows, CostsAtMost}
 use Rattle.sierra_tool.proofs.AcceptedLaws.{one_is_listed, one_stands_below}
-use Rattle.sierra_tool.specs.Values.{Value, felt, StandBelow, AreBelow, StandFor, Stands}
+use Rattle.sierra_tool.specs.Values.{felt}
 use Rattle.sierra_tool.specs.declared.program.Program.{Program}
 use Rattle.sierra_tool.specs.declared.input.Input.{Input}
-use Rattle.sierra_tool.specs.declared.verdict.Outcome.{Outcome}
 use Rattle.sierra_tool.specs.declared.verdict.Verdict.{Verdict}
 
 -- a step of an instruction with these flags

@@ -1,5 +1,5 @@
 -- What a program means, its code, and the verdict that a run of the code shows.
-use Rattle.std.specs.Prelude.{ℕ, ◌≡◌, ◌≤◌, ◌+◌, ◌-◌, ◌*◌, Bool, false, List, [], ◌∷◌, length, Option, Some, slice_get}
+use Rattle.std.specs.Prelude.{ℕ, ◌≡◌, ◌≤◌, ◌+◌, ◌-◌, ◌*◌, false, List, [], ◌∷◌, length, Option, Some, slice_get}
 use Rattle.felt64.specs.Field.{sum}
 use Rattle.ro_machine.specs.declared.machine.State.{State}
 use Rattle.sierra_tool.specs.declared.program.Program.{Program}

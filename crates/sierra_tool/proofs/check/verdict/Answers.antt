@@ -1,4 +1,4 @@
-use Rattle.std.proofs.Common.{◌≡◌, ◌+◌, ◌-◌, false, Some, Option, ℕ, length, refl, sym, ap, arith, ◌∙◌}
+use Rattle.std.proofs.Common.{◌≡◌, ◌+◌, ◌-◌, false, Some, Option, ℕ, length, refl, ap, arith, ◌∙◌}
 use Rattle.std.specs.FinMap.{get}
 use Rattle.felt64.specs.Field.{sum}
 use Rattle.sierra_tool.specs.declared.verdict.Verdict.{Verdict}

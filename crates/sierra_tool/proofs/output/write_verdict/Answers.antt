@@ -1,4 +1,4 @@
-use Rattle.std.proofs.Common.{List, ◌++◌, ℕ, subst, ap, ◌∙◌}
+use Rattle.std.proofs.Common.{◌++◌, subst, ap, ◌∙◌}
 use Rattle.std.specs.Prelude.{codes, decimal}
 use Rattle.edge_io.specs.Sinks.{Appends, AppendsFront}
 use Rattle.sierra_tool.specs.Answers.{outcome_word}
