@@ -1,19 +1,18 @@
 -- Of told files a check has one answer, where no read failed: each file is told in one way, each text is of one
 -- program or input, each file of one run, and each accepted run has one verdict.
-use Rattle.std.proofs.Common.{◌≡◌, ℕ, ◌<◌, ◌≤◌, ◌^◌, Bool, List, [], ◌∷◌, ◌++◌, length, Option, Some, None, MatchOption, refl, sym, ◌∙◌, ap, subst, inl, inr, ◌⊎◌, arith}
+use Rattle.std.proofs.Common.{◌≡◌, ℕ, ◌<◌, Bool, List, [], ◌∷◌, ◌++◌, length, Option, Some, None, MatchOption, refl, sym, ◌∙◌, ap, subst, inl, inr, ◌⊎◌, arith}
 use Rattle.std.specs.Prelude.{decimal}
 use Rattle.std.specs.FinMap.{get}
 use Rattle.std.proofs.lemmas.Bool.{cases_lt}
 use Rattle.edge_io.specs.Files.{FileMap}
-use Rattle.felt64.specs.Field.{modulus}
 use Rattle.felt64.proofs.DecimalLaws.{decimal_injective, decimal_all_digits}
 use Rattle.run_file.specs.declared.run.Run.{Run}
 use Rattle.run_file.proofs.Runs.{one_run}
-use Rattle.sierra_tool.specs.Answers.{Names, Reading, absent, unread, found, Reads, LeadsTo, file_limit, IsRunFile, IsVerdict, IsAccepted, OfRun, OfRunBytes, OfInput, OfInputText, OfProgram, OfProgramText, Answers, status_of}
-use Rattle.sierra_tool.specs.Exact.{NoReadFault, Holds, IsTooLong, IsMissing, HasProgram, HasInput, HasRun, CanRun, ComesTo}
+use Rattle.sierra_tool.specs.Answers.{Names, name_of, Reading, absent, unread, found, Reads, LeadsTo, file_limit, IsRunFile, IsVerdict, IsAccepted, OfRun, OfRunBytes, OfInput, OfInputText, OfProgram, OfProgramText, Answers, status_of}
+use Rattle.sierra_tool.specs.Exact.{NoReadFault, Holds, IsTooLong, IsMissing, HasProgram, HasInput, HasRun, HasNoRun, CanRun, ComesTo, Cause}
 use Rattle.sierra_tool.specs.Forms.{IsProgram, IsInput}
 use Rattle.sierra_tool.specs.Meaning.{entry_gas}
-use Rattle.sierra_tool.specs.Scan.{StartsWithNoDigit, HasDigits}
+use Rattle.sierra_tool.specs.Scan.{HasDigits}
 use Rattle.sierra_tool.specs.Values.{Value, felt}
 use Rattle.sierra_tool.specs.declared.answer.Answer.{Answer}
 use Rattle.sierra_tool.specs.declared.answer.Answer.TheVariants as answers
@@ -113,11 +112,14 @@ module _ {X : Type 0} (Is : X → Type 0) (refusal : Answer) (of : X → Answer 
 
 -- a program's text begins with the digits of its constant
 program_digits : (text : List ℕ) (program : Program) → IsProgram text program → (behind : List ℕ) × HasDigits text HEAD.now (decimal program.constant) behind
-program_digits text program is = (_, record {
-  text_is = is.text_is;
-  digits_only = decimal_all_digits program.constant (omega (arith, is.below));
-  none_behind = λ digit. omega (arith, digit);
-})
+program_digits text program is = (
+  _,
+  record {
+    text_is = is.text_is;
+    digits_only = decimal_all_digits program.constant (omega (arith, is.below));
+    none_behind = λ digit. omega (arith, digit);
+  },
+)
 
 -- a text is of one program
 one_program : (text : List ℕ) (p q : Program) → IsProgram text p → IsProgram text q → p ≡ q
@@ -169,8 +171,8 @@ one_value m n same = cc
 -- equal fields make equal verdicts
 same_verdict : (p q : Bool) (v w l m u x s t c d : ℕ) → p ≡ q → v ≡ w → l ≡ m → u ≡ x → s ≡ t → c ≡ d →
     ◌≡◌ {A = Verdict}
-        (record { outcome = record { panic = p; value = v; gas_left = l; gas_used = u }; steps = s; checks = c })
-        (record { outcome = record { panic = q; value = w; gas_left = m; gas_used = x }; steps = t; checks = d })
+    (record { outcome = record { panic = p; value = v; gas_left = l; gas_used = u }; steps = s; checks = c })
+    (record { outcome = record { panic = q; value = w; gas_left = m; gas_used = x }; steps = t; checks = d })
 same_verdict p q v w l m u x s t c d panic value left used steps checks = cc
 
 -- an accepted run has one verdict
@@ -222,3 +224,109 @@ module _ (files : FileMap) (names : Names) (a b : Answer) (a_calm : NoReadFault 
 
 pub one_answer : (files : FileMap) (names : Names) (a b : Answer) → Answers (Some files) names a → Answers (Some files) names b → NoReadFault a → NoReadFault b → a ≡ b
 one_answer files names a b a_answers b_answers a_calm b_calm = answers_once files names a b a_calm b_calm a_answers b_answers
+
+-- ---- what the files hold, and the answer
+
+module _ (files : FileMap) (names : Names) (answer : Answer) (calm : NoReadFault answer) where
+  -- a file's cause, from that of what it leads to
+  file_cause : (source : Source) (next : List ℕ → Answer → Type 0) → ComesTo files names source → ((bytes : List ℕ) → Holds files (name_of names source) bytes → next bytes answer → Cause files names answer) → Leads files (name_of names source) source next answer → Cause files names answer
+  file_cause source next comes more leads = elim (told_cases files (name_of names source)) [
+    | inl missing ↦ subst (Cause files names) (sym (is_missed files (name_of names source) source next answer calm missing leads)) (comes, missing)
+    | inr (inl long) ↦ subst (Cause files names) (sym (is_too_long files (name_of names source) source next answer calm long leads)) (comes, long)
+    | inr (inr there) ↦ more there.0 there.1 (goes_on files (name_of names source) source next answer calm there.0 there.1 leads)
+  ]
+
+  -- of a run that was read, ..
+  run_cause : (program : Program) (input : Input) (run : Run) → CanRun files names program input → HasRun files names run → OfRun program input run answer → Cause files names answer
+  run_cause program input run can has (inl rejected) = subst (Cause files names) (sym rejected.1) (program, input, run, can, has, rejected.0)
+  run_cause program input run can has (inr judged) = subst (Cause files names) (sym judged.1.2) (program, input, run, can, has, judged.0, judged.1.1)
+
+  -- .. of the bytes of a run file, ..
+  run_bytes_cause : (program : Program) (input : Input) → CanRun files names program input → (bytes : List ℕ) → Holds files names.run bytes → OfRunBytes program input bytes answer → Cause files names answer
+  run_bytes_cause program input can bytes holds (inl refused) = subst (Cause files names) (sym refused.1) (program, input, can, (bytes, holds, refused.0))
+  run_bytes_cause program input can bytes holds (inr read) = run_cause program input read.0 can (bytes, holds, read.1) read.2
+
+  -- .. of an input that was read, ..
+  input_cause : (program : Program) (input : Input) → HasProgram files names program → HasInput files names input → OfInput (Some files) names program input answer → Cause files names answer
+  input_cause program input has has_input (inl poor) = subst (Cause files names) (sym poor.1) (program, input, has, has_input, poor.0, refl)
+  input_cause program input has has_input (inr enough) =
+      let can : CanRun files names program input = record { program_there = has; input_there = has_input; gas = enough.0 } in
+      file_cause sources.Run (OfRunBytes program input) (program, input, can) (run_bytes_cause program input can) enough.1
+
+  -- .. of an input's text, ..
+  input_text_cause : (program : Program) → HasProgram files names program → (text : List ℕ) → Holds files names.input text → OfInputText (Some files) names program text answer → Cause files names answer
+  input_text_cause program has text holds (inl refused) = subst (Cause files names) (sym refused.1) (inr (program, has, (text, holds, refused.0)))
+  input_text_cause program has text holds (inr read) = input_cause program read.0 has (text, holds, read.1) read.2
+
+  -- .. and of a program's text
+  program_text_cause : (text : List ℕ) → Holds files names.program text → OfProgramText (Some files) names text answer → Cause files names answer
+  program_text_cause text holds (inl refused) = subst (Cause files names) (sym refused.1) (inl (text, holds, refused.0))
+  program_text_cause text holds (inr read) = file_cause sources.Input (OfInputText (Some files) names read.0) (read.0, (text, holds, read.1)) (input_text_cause read.0 (text, holds, read.1)) read.2
+
+  pub cause : Answers (Some files) names answer → Cause files names answer
+  cause answered = file_cause sources.Program (OfProgramText (Some files) names) tt program_text_cause answered
+
+module _ (files : FileMap) (names : Names) (answer : Answer) (answered : Answers (Some files) names answer) (calm : NoReadFault answer) where
+  -- what a program that the file holds leads to, ..
+  of_program : (program : Program) → HasProgram files names program → OfProgram (Some files) names program answer
+  of_program program has =
+      is_parsed (IsProgram has.0) answers.NotBuilt (OfProgram (Some files) names) answer (one_program has.0) program has.2
+      (goes_on files names.program sources.Program (OfProgramText (Some files) names) answer calm has.0 has.1 answered)
+
+  -- .. and an input, ..
+  of_input : (program : Program) (input : Input) → HasProgram files names program → HasInput files names input → OfInput (Some files) names program input answer
+  of_input program input has has_input =
+      is_parsed (IsInput has_input.0) answers.NotBuilt (OfInput (Some files) names program) answer (one_input has_input.0) input has_input.2
+      (goes_on files names.input sources.Input (OfInputText (Some files) names program) answer calm has_input.0 has_input.1 (of_program program has))
+
+  -- .. and one that has the gas, ..
+  with_gas : (program : Program) (input : Input) → CanRun files names program input → Leads files names.run sources.Run (OfRunBytes program input) answer
+  with_gas program input can = elim (of_input program input can.program_there can.input_there) [
+    | inl poor ↦ absurd (omega (arith, poor.0, can.gas))
+    | inr enough ↦ enough.1
+  ]
+
+  -- .. and a run
+  of_run : (program : Program) (input : Input) (run : Run) → CanRun files names program input → HasRun files names run → OfRun program input run answer
+  of_run program input run can has =
+      is_parsed (λ r. IsRunFile r has.0) answers.RunRefused (OfRun program input) answer (run_of_bytes has.0) run has.2
+      (goes_on files names.run sources.Run (OfRunBytes program input) answer calm has.0 has.1 (with_gas program input can))
+
+  -- a file that a check comes to and that is missing is the answer, ..
+  pub missing_answer : (source : Source) → ComesTo files names source → IsMissing files (name_of names source) → answer ≡ answers.Missing source
+  missing_answer sources.Program comes missing = is_missed files names.program sources.Program (OfProgramText (Some files) names) answer calm missing answered
+  missing_answer sources.Input comes missing = is_missed files names.input sources.Input (OfInputText (Some files) names comes.0) answer calm missing (of_program comes.0 comes.1)
+  missing_answer sources.Run comes missing = is_missed files names.run sources.Run (OfRunBytes comes.0 comes.1) answer calm missing (with_gas comes.0 comes.1 comes.2)
+
+  -- .. and so is one that is too long
+  pub long_answer : (source : Source) → ComesTo files names source → IsTooLong files (name_of names source) → answer ≡ answers.TooLong source
+  long_answer sources.Program comes long = is_too_long files names.program sources.Program (OfProgramText (Some files) names) answer calm long answered
+  long_answer sources.Input comes long = is_too_long files names.input sources.Input (OfInputText (Some files) names comes.0) answer calm long (of_program comes.0 comes.1)
+  long_answer sources.Run comes long = is_too_long files names.run sources.Run (OfRunBytes comes.0 comes.1) answer calm long (with_gas comes.0 comes.1 comes.2)
+
+  -- the answer of an input without the gas, ..
+  pub poor_answer : (program : Program) (input : Input) → HasProgram files names program → HasInput files names input → input.gas < entry_gas → answer ≡ answers.NotEnoughGas input.gas
+  poor_answer program input has has_input below = elim (of_input program input has has_input) [
+    | inl poor ↦ poor.1
+    | inr enough ↦ absurd (omega (arith, enough.0, below))
+  ]
+
+  -- .. of bytes that are no run file, ..
+  pub refused_answer : (program : Program) (input : Input) → CanRun files names program input → HasNoRun files names → answer ≡ answers.RunRefused
+  refused_answer program input can has_none =
+      is_refused (λ run. IsRunFile run has_none.0) answers.RunRefused (OfRun program input) answer has_none.2
+      (goes_on files names.run sources.Run (OfRunBytes program input) answer calm has_none.0 has_none.1 (with_gas program input can))
+
+  -- .. of a run that isn't accepted, ..
+  pub rejected_answer : (program : Program) (input : Input) (run : Run) → CanRun files names program input → HasRun files names run → (IsAccepted program input run → ⊥) → answer ≡ answers.RunRejected
+  rejected_answer program input run can has never = elim (of_run program input run can has) [
+    | inl rejected ↦ rejected.1
+    | inr judged ↦ absurd (never judged.0)
+  ]
+
+  -- .. and the status of one that is
+  pub judged_status : (program : Program) (input : Input) (run : Run) → CanRun files names program input → HasRun files names run → IsAccepted program input run → status_of answer ≡ 0
+  judged_status program input run can has accepted = elim (of_run program input run can has) [
+    | inl rejected ↦ absurd (rejected.0 accepted)
+    | inr judged ↦ ap status_of judged.1.2
+  ]

@@ -1,5 +1,5 @@
 -- What the told files hold, and which answer it is the cause of where no read failed.
-use Rattle.std.specs.Prelude.{ℕ, ◌≡◌, ◌<◌, ◌≤◌, List, length, Option, Some, None}
+use Rattle.std.specs.Prelude.{ℕ, ◌≡◌, ◌<◌, ◌≤◌, ◌⊎◌, List, length, Some, None}
 use Rattle.std.specs.FinMap.{get}
 use Rattle.edge_io.specs.Files.{FileMap}
 use Rattle.run_file.specs.declared.run.Run.{Run}
@@ -9,7 +9,7 @@ use Rattle.sierra_tool.specs.declared.command.Source.{Source}
 use Rattle.sierra_tool.specs.declared.command.Source.TheVariants as sources
 use Rattle.sierra_tool.specs.declared.program.Program.{Program}
 use Rattle.sierra_tool.specs.declared.input.Input.{Input}
-use Rattle.sierra_tool.specs.Answers.{Names, name_of, file_limit, IsRunFile}
+use Rattle.sierra_tool.specs.Answers.{Names, name_of, file_limit, IsRunFile, IsAccepted, IsVerdict}
 use Rattle.sierra_tool.specs.Forms.{IsProgram, IsInput}
 use Rattle.sierra_tool.specs.Meaning.{entry_gas}
 
@@ -39,7 +39,7 @@ pub record IsTooLong (files : FileMap) (name : List ℕ) : Type 0 where
 abbrev pub IsMissing : FileMap → List ℕ → Type 0
 IsMissing files name = get files name ≡ None
 
--- a file of this name is read, and its bytes are this
+-- a file of this name is there and is read, and this holds of its bytes
 abbrev pub HasFile : FileMap → List ℕ → (List ℕ → Type 0) → Type 0
 HasFile files name is = (bytes : List ℕ) × Holds files name bytes × is bytes
 
@@ -73,3 +73,20 @@ abbrev pub ComesTo : FileMap → Names → Source → Type 0
 ComesTo files names sources.Program = Unit {0}
 ComesTo files names sources.Input = (program : Program) × HasProgram files names program
 ComesTo files names sources.Run = (program : Program) × (input : Input) × CanRun files names program input
+
+-- What the files hold where a check has this answer. Nothing that they hold makes a read fail.
+abbrev pub Cause : FileMap → Names → Answer → Type 0
+Cause files names (answers.Judged verdict) =
+    (program : Program) × (input : Input) × (run : Run)
+    × CanRun files names program input × HasRun files names run × IsAccepted program input run × IsVerdict program input run verdict
+Cause files names (answers.Missing source) = ComesTo files names source × IsMissing files (name_of names source)
+Cause files names (answers.ReadFault source) = ⊥
+Cause files names (answers.TooLong source) = ComesTo files names source × IsTooLong files (name_of names source)
+Cause files names answers.NotBuilt = HasNoProgram files names ⊎ ((program : Program) × HasProgram files names program × HasNoInput files names)
+Cause files names (answers.NotEnoughGas given) =
+    (program : Program) × (input : Input)
+    × HasProgram files names program × HasInput files names input × (input.gas < entry_gas) × (given ≡ input.gas)
+Cause files names answers.RunRefused = (program : Program) × (input : Input) × CanRun files names program input × HasNoRun files names
+Cause files names answers.RunRejected =
+    (program : Program) × (input : Input) × (run : Run)
+    × CanRun files names program input × HasRun files names run × (IsAccepted program input run → ⊥)
