@@ -1,16 +1,55 @@
-//! What every accepted run of the form shows.
+//! What every accepted run of the form shows, and which answer each check has.
 
-ghost use Rattle.std.specs.Prelude.{ℕ, List, Option};
+ghost use Rattle.std.specs.Prelude.{ℕ, ◌≡◌, ◌<◌, List, Option, Some};
+ghost use Rattle.edge_io.specs.Files.{FileMap};
 ghost use Rattle.ro_machine.specs.declared.machine.State.{State};
 ghost use Rattle.sierra_tool.specs.declared.program.Program.{Program};
 ghost use Rattle.sierra_tool.specs.declared.input.Input.{Input};
 ghost use Rattle.sierra_tool.specs.declared.verdict.Verdict.{Verdict};
+ghost use Rattle.sierra_tool.specs.declared.answer.Answer.{Answer};
+ghost use Rattle.sierra_tool.specs.declared.answer.Answer.TheVariants as answers;
+ghost use Rattle.sierra_tool.specs.declared.command.Source.{Source};
+ghost use Rattle.run_file.specs.declared.run.Run.{Run};
 ghost use Rattle.sierra_tool.specs.Accepted.{Accepts};
-ghost use Rattle.sierra_tool.specs.Meaning.{code_of, arguments_of, Means, Shows, CostsAtMost};
+ghost use Rattle.sierra_tool.specs.Answers.{Names, name_of, IsAccepted, Answers, status_of};
+ghost use Rattle.sierra_tool.specs.Exact.{NoReadFault, IsMissing, IsTooLong, HasProgram, HasInput, HasRun, HasNoProgram, HasNoInput, HasNoRun, CanRun, ComesTo, Cause};
+ghost use Rattle.sierra_tool.specs.Meaning.{entry_gas, code_of, arguments_of, Means, Shows, CostsAtMost};
 
 /// Whatever an accepted run lists, the verdict that it shows is the meaning, and it costs at most the gas used.
 pub fn accepted_runs_mean()
     ensures { (program : Program) (input : Input) (rc : ℕ) (cells : ℕ → Option ℕ) (states : List State) (verdict : Verdict) →
         Accepts (code_of program) (arguments_of input) rc cells states →
         Shows input cells states verdict → Means program input verdict.outcome × CostsAtMost verdict }
+{}
+
+/// Of files that are told, a check has one answer, reads that failed aside: so each status comes exactly where its cause holds.
+pub fn one_answer()
+    ensures { (files : FileMap) (names : Names) (a b : Answer) →
+        Answers (Some files) names a → Answers (Some files) names b → NoReadFault a → NoReadFault b → a ≡ b }
+{}
+
+/// What told files hold says which answer a check has, reads that failed aside: the refusal of the first file that is
+/// refused, or what the run deserves. The last clause is the other direction: what they hold where a check has an answer.
+pub fn exact_answers()
+    ensures judged { (files : FileMap) (names : Names) (a : Answer) → Answers (Some files) names a → NoReadFault a →
+        (program : Program) (input : Input) (run : Run) → CanRun files names program input → HasRun files names run →
+        IsAccepted program input run → status_of a ≡ 0 }
+    ensures rejected { (files : FileMap) (names : Names) (a : Answer) → Answers (Some files) names a → NoReadFault a →
+        (program : Program) (input : Input) (run : Run) → CanRun files names program input → HasRun files names run →
+        (IsAccepted program input run → ⊥) → a ≡ answers.RunRejected }
+    ensures refused { (files : FileMap) (names : Names) (a : Answer) → Answers (Some files) names a → NoReadFault a →
+        (program : Program) (input : Input) → CanRun files names program input → HasNoRun files names → a ≡ answers.RunRefused }
+    ensures poor { (files : FileMap) (names : Names) (a : Answer) → Answers (Some files) names a → NoReadFault a →
+        (program : Program) (input : Input) → HasProgram files names program → HasInput files names input →
+        input.gas < entry_gas → a ≡ answers.NotEnoughGas input.gas }
+    ensures no_program { (files : FileMap) (names : Names) (a : Answer) → Answers (Some files) names a → NoReadFault a →
+        HasNoProgram files names → a ≡ answers.NotBuilt }
+    ensures no_input { (files : FileMap) (names : Names) (a : Answer) → Answers (Some files) names a → NoReadFault a →
+        (program : Program) → HasProgram files names program → HasNoInput files names → a ≡ answers.NotBuilt }
+    ensures missing { (files : FileMap) (names : Names) (a : Answer) → Answers (Some files) names a → NoReadFault a →
+        (source : Source) → ComesTo files names source → IsMissing files (name_of names source) → a ≡ answers.Missing source }
+    ensures long { (files : FileMap) (names : Names) (a : Answer) → Answers (Some files) names a → NoReadFault a →
+        (source : Source) → ComesTo files names source → IsTooLong files (name_of names source) → a ≡ answers.TooLong source }
+    ensures caused { (files : FileMap) (names : Names) (a : Answer) → Answers (Some files) names a → NoReadFault a →
+        Cause files names a }
 {}
