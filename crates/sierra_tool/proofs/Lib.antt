@@ -2,6 +2,7 @@ pub mod AcceptedLaws
 pub mod CheckLaws
 pub mod CommandLaws
 pub mod FormLaws
+pub mod ExactStatus
 pub mod OneAnswer
 pub mod ScanLemmas
 pub mod Soundness

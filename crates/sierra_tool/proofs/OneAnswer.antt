@@ -9,7 +9,7 @@ use Rattle.felt64.proofs.DecimalLaws.{decimal_injective, decimal_all_digits}
 use Rattle.run_file.specs.declared.run.Run.{Run}
 use Rattle.run_file.proofs.Runs.{one_run}
 use Rattle.sierra_tool.specs.Answers.{Names, name_of, Reading, absent, unread, found, Reads, LeadsTo, file_limit, IsRunFile, IsVerdict, IsAccepted, OfRun, OfRunBytes, OfInput, OfInputText, OfProgram, OfProgramText, Answers, status_of}
-use Rattle.sierra_tool.specs.Exact.{NoReadFault, Holds, IsTooLong, IsMissing, HasProgram, HasInput, HasRun, HasNoRun, CanRun, ComesTo, Cause}
+use Rattle.sierra_tool.specs.Exact.{NoReadFault, Holds, IsTooLong, IsMissing, HasProgram, HasInput, HasRun, HasNoRun, CanRun, ComesTo, Cause, HasNoProgram, HasNoInput}
 use Rattle.sierra_tool.specs.Forms.{IsProgram, IsInput}
 use Rattle.sierra_tool.specs.Meaning.{entry_gas}
 use Rattle.sierra_tool.specs.Scan.{HasDigits}
@@ -330,3 +330,15 @@ module _ (files : FileMap) (names : Names) (answer : Answer) (answered : Answers
     | inl rejected ↦ absurd (rejected.0 accepted)
     | inr judged ↦ ap status_of judged.1.2
   ]
+
+  -- a text that is no program is not built, ..
+  pub no_program_answer : HasNoProgram files names → answer ≡ answers.NotBuilt
+  no_program_answer none =
+      is_refused (IsProgram none.0) answers.NotBuilt (OfProgram (Some files) names) answer none.2
+      (goes_on files names.program sources.Program (OfProgramText (Some files) names) answer calm none.0 none.1 answered)
+
+  -- .. and neither is one that is no input
+  pub no_input_answer : (program : Program) → HasProgram files names program → HasNoInput files names → answer ≡ answers.NotBuilt
+  no_input_answer program has none =
+      is_refused (IsInput none.0) answers.NotBuilt (OfInput (Some files) names program) answer none.2
+      (goes_on files names.input sources.Input (OfInputText (Some files) names program) answer calm none.0 none.1 (of_program program has))

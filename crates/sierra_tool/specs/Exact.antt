@@ -1,5 +1,5 @@
 -- What the told files hold, and which answer it is the cause of where no read failed.
-use Rattle.std.specs.Prelude.{ℕ, ◌≡◌, ◌<◌, ◌≤◌, ◌⊎◌, List, length, Some, None}
+use Rattle.std.specs.Prelude.{ℕ, ◌≡◌, ◌≢◌, ◌<◌, ◌≤◌, ◌⊎◌, ◌↔◌, List, length, Option, Some, None}
 use Rattle.std.specs.FinMap.{get}
 use Rattle.edge_io.specs.Files.{FileMap}
 use Rattle.run_file.specs.declared.run.Run.{Run}
@@ -9,7 +9,7 @@ use Rattle.sierra_tool.specs.declared.command.Source.{Source}
 use Rattle.sierra_tool.specs.declared.command.Source.TheVariants as sources
 use Rattle.sierra_tool.specs.declared.program.Program.{Program}
 use Rattle.sierra_tool.specs.declared.input.Input.{Input}
-use Rattle.sierra_tool.specs.Answers.{Names, name_of, file_limit, IsRunFile, IsAccepted, IsVerdict}
+use Rattle.sierra_tool.specs.Answers.{Names, name_of, IsCheck, NoCheck, file_limit, IsRunFile, IsAccepted, IsVerdict}
 use Rattle.sierra_tool.specs.Forms.{IsProgram, IsInput}
 use Rattle.sierra_tool.specs.Meaning.{entry_gas}
 
@@ -90,3 +90,50 @@ Cause files names answers.RunRefused = (program : Program) × (input : Input) ×
 Cause files names answers.RunRejected =
     (program : Program) × (input : Input) × (run : Run)
     × CanRun files names program input × HasRun files names run × (IsAccepted program input run → ⊥)
+
+-- the files hold a program, an input that has the gas, and an accepted run
+abbrev pub HasAcceptedRun : FileMap → Names → Type 0
+HasAcceptedRun files names = (program : Program) × (input : Input) × (run : Run) × CanRun files names program input × HasRun files names run × IsAccepted program input run
+
+-- the same with a run that isn't accepted
+abbrev pub HasRejectedRun : FileMap → Names → Type 0
+HasRejectedRun files names =
+    (program : Program) × (input : Input) × (run : Run)
+    × CanRun files names program input × HasRun files names run × (IsAccepted program input run → ⊥)
+
+-- the same with bytes that are no run file
+abbrev pub HasRefusedRun : FileMap → Names → Type 0
+HasRefusedRun files names = (program : Program) × (input : Input) × CanRun files names program input × HasNoRun files names
+
+-- the input has less gas than a run needs
+abbrev pub HasPoorInput : FileMap → Names → Type 0
+HasPoorInput files names = (program : Program) × (input : Input) × HasProgram files names program × HasInput files names input × (input.gas < entry_gas)
+
+-- the program or the input is not of the form
+abbrev pub HasOtherForm : FileMap → Names → Type 0
+HasOtherForm files names = HasNoProgram files names ⊎ ((program : Program) × HasProgram files names program × HasNoInput files names)
+
+-- a file that a check comes to is missing, or too long
+abbrev pub HasMissing : FileMap → Names → Type 0
+HasMissing files names = (source : Source) × ComesTo files names source × IsMissing files (name_of names source)
+
+abbrev pub HasTooLong : FileMap → Names → Type 0
+HasTooLong files names = (source : Source) × ComesTo files names source × IsTooLong files (name_of names source)
+
+-- each status comes exactly where its cause holds
+pub record IsExact (files : FileMap) (names : Names) (status : ℕ) : Type 0 where
+  pub done : (status ≡ 0) ↔ HasAcceptedRun files names
+  pub missing : (status ≡ 3) ↔ HasMissing files names
+  pub too_long : (status ≡ 7) ↔ HasTooLong files names
+  pub not_built : (status ≡ 9) ↔ HasOtherForm files names
+  pub poor : (status ≡ 13) ↔ HasPoorInput files names
+  pub refused : (status ≡ 14) ↔ HasRefusedRun files names
+  pub rejected : (status ≡ 15) ↔ HasRejectedRun files names
+
+-- Of told files, where no read and no write failed and memory was not wanted: words that are no command are not built,
+-- and a check's status is exact.
+abbrev pub ExactStatus : List (List ℕ) → Option FileMap → ℕ → Type 0
+ExactStatus words None status = Unit {0}
+ExactStatus words (Some files) status =
+    status ≢ 4 → status ≢ 5 → status ≢ 6 →
+    (NoCheck words → status ≡ 9) × ((names : Names) → IsCheck words names → IsExact files names status)

@@ -4,6 +4,7 @@ ghost use Rattle.std.specs.Prelude.{◌≡◌, ◌≤◌, map, string_bytes};
 ghost use Rattle.edge_io.specs.Counts.{Rose};
 ghost use Rattle.edge_io.specs.Sinks.{Appends};
 ghost use Rattle.sierra_tool.specs.Command.{names_of};
+ghost use Rattle.sierra_tool.specs.Exact.{ExactStatus};
 ghost use Rattle.sierra_tool.specs.Answers.{Tool, Delivers, not_built, text_of, status_of};
 
 use crate::answer::Answer;
@@ -34,6 +35,33 @@ pub fn sierra_tool<F: Files, S: Sink>(
     ensures faults_kept { F.faults files.old ≤ F.faults files.new }
     ensures misses_kept { F.misses files.old ≤ F.misses files.new }
     ensures write_faults_kept { S.faults out.old ≤ S.faults out.new }
+
+    // The status and what was written are those of the answer that the words and the files have.
+    ensures tool { Tool (map string_bytes words.now) (F.contents files.old)
+        (Rose (F.misses files.old) (F.misses files.new))
+        (Rose (F.faults files.old) (F.faults files.new))
+        (Rose (S.faults out.old) (S.faults out.new))
+        (Appends (S.written out.old) (S.written out.new))
+        result }
+
+    // Of told files, each status comes exactly where its cause holds, faults and want of memory aside.
+    ensures exact { ExactStatus (map string_bytes words.now) (F.contents files.old) result }
+
+    // Of any files, and any output.
+    ensures missed { result ≡ 3 → Rose (F.misses files.old) (F.misses files.new) }
+    ensures read_failed { result ≡ 4 → Rose (F.faults files.old) (F.faults files.new) }
+    ensures write_failed { result ≡ 5 → Rose (S.faults out.old) (S.faults out.new) }
+{
+    let Shelf {} = shelf;
+    work(alloc, words, files, out)
+}
+
+/// Answers the words, and gives the status.
+fn work<F: Files, S: Sink>(alloc: Global, words: &[String], files: &mut F, out: &mut S) -> u8
+    ensures same { F.contents files.new ≡ F.contents files.old }
+    ensures faults_kept { F.faults files.old ≤ F.faults files.new }
+    ensures misses_kept { F.misses files.old ≤ F.misses files.new }
+    ensures write_faults_kept { S.faults out.old ≤ S.faults out.new }
     ensures tool { Tool (map string_bytes words.now) (F.contents files.old)
         (Rose (F.misses files.old) (F.misses files.new))
         (Rose (F.faults files.old) (F.faults files.new))
@@ -41,7 +69,6 @@ pub fn sierra_tool<F: Files, S: Sink>(
         (Appends (S.written out.old) (S.written out.new))
         result }
 {
-    let Shelf {} = shelf;
     let Some(check) = Check::of(words) else {
         return refuse(out);
     };
