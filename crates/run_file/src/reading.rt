@@ -163,7 +163,7 @@ fn listed(alloc: Global, bytes: &[u8]) -> Result<Run, FileRefusal>
 }
 
 /// The run that the bytes spell, all of the bytes: the file is the magic `SIERRUN1` and then numbers of
-/// eight bytes, the least significant first. They are the end of the range check cells, the count of
+/// eight bytes, the least significant first. They are the address of the first range-check cell, the count of
 /// cells, the cells with address and word, the count of steps, and the states with pc, ap and fp.
 ///
 /// It takes time linear in the number of bytes, and room for no more states than they can hold.

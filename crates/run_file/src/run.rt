@@ -47,7 +47,7 @@ impl States {
 /// A run of the Cairo machine, before it is checked.
 #[derive(Debug, Drop)]
 pub struct Run {
-    /// Where the range check cells end.
+    /// The address of the first range-check cell.
     pub rc: Felt,
     /// The cells with their words.
     pub memory: Memory,
