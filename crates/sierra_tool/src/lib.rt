@@ -17,3 +17,6 @@ mod tool;
 pub mod verdict;
 
 pub use tool::{Shelf, sierra_tool};
+
+#[cfg(test)]
+mod tests;
