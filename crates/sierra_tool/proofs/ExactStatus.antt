@@ -1,12 +1,9 @@
 -- What the clause of the top call says of a status: its cause, and, of told files, that it comes exactly there.
 use Rattle.std.proofs.Common.{◌≡◌, ◌≢◌, ℕ, List, [], ◌∷◌, Option, Some, None, refl, sym, ap, subst, ◌∙◌, inl, inr, ◌⊎◌, arith}
 use Rattle.edge_io.specs.Files.{FileMap}
-use Rattle.run_file.specs.declared.run.Run.{Run}
 use Rattle.sierra_tool.specs.declared.answer.Answer.{Answer}
 use Rattle.sierra_tool.specs.declared.answer.Answer.TheVariants as answers
-use Rattle.sierra_tool.specs.declared.program.Program.{Program}
-use Rattle.sierra_tool.specs.declared.input.Input.{Input}
-use Rattle.sierra_tool.specs.Answers.{Names, IsCheck, NoCheck, Answers, HasCause, Delivers, Tool, status_of}
+use Rattle.sierra_tool.specs.Answers.{Names, IsCheck, NoCheck, Answers, HasCause, Tool, status_of}
 use Rattle.sierra_tool.specs.Exact.{NoReadFault, Cause, HasAcceptedRun, HasRejectedRun, HasRefusedRun, HasPoorInput, HasOtherForm, HasMissing, HasTooLong, IsExact, ExactStatus}
 use Rattle.sierra_tool.proofs.OneAnswer.{judged_status, rejected_answer, refused_answer, poor_answer, missing_answer, long_answer, no_program_answer, no_input_answer, cause}
 
