@@ -6,7 +6,7 @@ use Rattle.sierra_tool.specs.declared.program.Program.{Program}
 use Rattle.sierra_tool.specs.declared.input.Input.{Input}
 use Rattle.sierra_tool.specs.declared.verdict.Outcome.{Outcome}
 use Rattle.sierra_tool.specs.declared.verdict.Verdict.{Verdict}
-use Rattle.sierra_tool.specs.Values.{Type_of_value, felt64, Value, felt, AreOfTypes, StandBelow}
+use Rattle.sierra_tool.specs.Values.{ValueType, felt64, Value, felt, AreOfTypes, StandBelow}
 
 -- `call rel 4`, `jmp rel 0`, `[ap + 0] = [fp + -3] + constant, ap++`, `ret`
 abbrev pub code_of : Program → List ℕ
@@ -20,7 +20,7 @@ entry_gas = 300
 abbrev pub arguments_of : Input → List Value
 arguments_of input = felt input.argument ∷ []
 
-abbrev pub result_types : List Type_of_value
+abbrev pub result_types : List ValueType
 result_types = felt64 ∷ []
 
 abbrev pub values_of : Outcome → List Value

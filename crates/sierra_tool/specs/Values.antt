@@ -3,18 +3,18 @@ use Rattle.std.specs.Prelude.{ℕ, ◌≡◌, ◌<◌, ◌-◌, List, [], ◌∷
 use Rattle.felt64.specs.Field.{modulus, difference}
 
 -- the types of the values that are built
-pub data Type_of_value : Type 0 where
-  felt64 : Type_of_value
+pub data ValueType : Type 0 where
+  felt64 : ValueType
 
 -- a felt is a number below P
 pub data Value : Type 0 where
   felt : ℕ → Value
 
-abbrev pub IsOfType : Type_of_value → Value → Type 0
+abbrev pub IsOfType : ValueType → Value → Type 0
 IsOfType felt64 (felt n) = n < modulus
 
 -- the values are of these types, one by one
-abbrev pub AreOfTypes : List Type_of_value → List Value → Type 0
+abbrev pub AreOfTypes : List ValueType → List Value → Type 0
 AreOfTypes [] [] = Unit {0}
 AreOfTypes [] (value ∷ values) = ⊥
 AreOfTypes (type ∷ types) [] = ⊥

@@ -1,4 +1,5 @@
-//! What a check answers, each with its status.
+//! What a check answers, each answer with its status. The check makes answers, the output writes them, and the top
+//! call ends with their status.
 
 ghost use Rattle.std.specs.Prelude.{◌≡◌};
 ghost use Rattle.sierra_tool.specs.Answers.{status_of};

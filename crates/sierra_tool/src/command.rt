@@ -1,4 +1,4 @@
-//! The words of a command.
+//! The words of a command: words come in from the top call, and the names of a check's three files go out.
 
 ghost use Rattle.std.specs.Prelude.{◌≡◌, map, MatchOption, string_bytes};
 ghost use Rattle.sierra_tool.specs.Answers.{IsCheck, NoCheck, name_of};
@@ -16,7 +16,7 @@ pub enum Source {
 }
 
 /// The command `check PROGRAM INPUT RUN`, by the names of its files.
-#[derive(Clone, Copy)]
+#[derive(Clone, Copy, Debug, PartialEq, Eq)]
 pub struct Check<'a> {
     /// The name of the program.
     pub program: &'a str,

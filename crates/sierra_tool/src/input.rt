@@ -1,4 +1,5 @@
-//! The input of the form of program that is built: a gas number and one argument.
+//! The input of the form of program that is built: a gas number and one argument. A text comes in, and the input that it
+//! is goes out, where it is one. The check reads it.
 
 ghost use Rattle.std.specs.Prelude.{◌≡◌, ◌↔◌, ◌<◌, ◌^◌, ℕ, Some, decimal};
 ghost use Rattle.sierra_tool.specs.Forms.{IsInput};

@@ -1,4 +1,5 @@
-//! Writing the answer of a check: a verdict's lines, or the one line of a refusal. It takes no memory.
+//! Writing the answer of a check: an answer comes in from the top call, and a verdict's lines or the one line of a refusal
+//! go out to the sink. It takes no memory.
 
 ghost use Rattle.std.specs.Prelude.{◌≡◌, ◌≤◌, ◌<◌, ◌^◌, ◌++◌, [], ◌∷◌, OnOk, OnErr, decimal};
 ghost use Rattle.edge_io.specs.Counts.{Rose};

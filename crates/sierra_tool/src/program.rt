@@ -1,4 +1,5 @@
-//! The form of program that is built: one that adds a constant to its argument.
+//! The form of program that is built: one that adds a constant to its argument. A text comes in, and the program that it
+//! is goes out, where it is one. The check reads it.
 
 ghost use Rattle.std.specs.Prelude.{◌≡◌, ◌↔◌, Some};
 ghost use Rattle.sierra_tool.specs.Forms.{IsProgram};

@@ -1,4 +1,5 @@
-//! Taking a text apart from its front.
+//! Taking a text apart from its front: a text and what it may begin with come in, and what follows goes out. The readers
+//! of program and input stand on it.
 
 ghost use Rattle.std.specs.Prelude.{◌≡◌, ◌≢◌, ◌<◌, ◌↔◌, ◌++◌, ℕ, List, Some, MatchOption, decimal};
 ghost use Rattle.felt64.specs.Field.{modulus};

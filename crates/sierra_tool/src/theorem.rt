@@ -1,4 +1,5 @@
-//! What every accepted run of the form shows, and which answer each check has.
+//! What every accepted run of the form shows, and which answer each check has: laws about the definitions, without code.
+//! Whoever reads the contract of the top call reads them beside it.
 
 ghost use Rattle.std.specs.Prelude.{ℕ, ◌≡◌, ◌<◌, List, Option, Some};
 ghost use Rattle.edge_io.specs.Files.{FileMap};

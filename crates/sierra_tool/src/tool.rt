@@ -1,4 +1,4 @@
-//! The top call.
+//! The top call: words, files and a place for the output come in from the program, and the exit status goes out.
 
 ghost use Rattle.std.specs.Prelude.{◌≡◌, ◌≤◌, map, string_bytes};
 ghost use Rattle.edge_io.specs.Counts.{Rose};

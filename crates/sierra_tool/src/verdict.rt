@@ -1,4 +1,4 @@
-//! What a check answers of an accepted run.
+//! What a check answers of an accepted run. The check makes a verdict, and the output prints it.
 
 use felt64::Felt;
 
