@@ -128,7 +128,7 @@ impl Felt {
     pub fn add(self, other: Felt) -> Felt
         ensures { result ≡ sum self other }
     {
-        // What `self` lacks to the order once `o` is added: no sum here can overflow.
+        // The sum reaches the order exactly where `self` reaches this gap, so nothing here overflows.
         let gap = MODULUS - other.value;
         Felt {
             value: if self.value < gap {
