@@ -6,13 +6,16 @@
 - Each refusal code has its anchor in docs/answers.md, `#p20` for P20: those of the sources, and those that a page
   names. In the sources a code is a capital letter and one or two digits at the beginning of a string literal, as in
   "P20 {} {}", or at the beginning of a document comment, as in `/// F1: a byte of the magic differs.`
-- Each exit status has its anchor there, `#status-14`. A status is a number behind `=>` in a function `status`.
-- Each file that a page names is there: in `..` a name with a slash or with an ending of this repository, from the top,
-  from docs/ or from a crate's folder, and in a code block a name that begins with a folder of the repository.
+- Each exit status has its anchor there, `#status-14`. A status is a number behind `=>` in a function `status`, or a
+  constant whose document comment begins with `The status`.
+- Each file of the repository that a page names is there. In `..` that is a name that begins with a folder of FOLDERS,
+  from the top or from a crate's folder, or a bare name with an ending of ENDINGS; in a code block, a name that begins
+  with a folder of the repository. Names with a word of capitals, as crates/NAME, stand for many files.
 - No page has a word of WORDS: the glossary says what is written in its place.
 
 With --self-test it plants a fault of each kind in a copy, and fails where one isn't found.
 """
+import os
 import re
 import shutil
 import sys
@@ -23,12 +26,13 @@ CODE = r"[TAPIFCBZ][0-9]{1,2}"
 IN_SOURCE = re.compile(rf'b?"({CODE})(?=[ "\\{{])|^\s*//[/!] ({CODE})\b', re.M)
 IN_PAGE = re.compile(rf"(?<![\w.#/-])({CODE})(?![\w-])")
 STATUSES = re.compile(r"fn (?:exit_)?status\(.*?^    }$", re.M | re.S)
+STATUS_CONSTANT = re.compile(r"/// The status[^\n]*\n(?:pub )?const \w+: u8 = (\d+);")
 LINK = re.compile(r"(?<!!)\[(?:[^\[\]]|\[[^\]]*\])*\]\(([^()\s]+)\)")
-ENDINGS = "antt|edit|md|py|rt|run|sh|sierra|input|txt"
-FILE = re.compile(rf"^\.?[\w.-]*(?:/[\w.-]+)*(?:/|\.(?:{ENDINGS}))$|^\.?[\w.-]+(?:/[\w.-]+)+$")
-IN_BLOCK = re.compile(r"(?<!\S)((?:\./|crates/|docs/|\.ci/|bench/)[\w./-]+)")
-# A name with a word of capitals stands for many files; a format and a ratio are no files.
-NO_FILE = re.compile(r"(^|/)[A-Z]+(/|$)|^/|^[\d/]+$")
+FOLDERS = r"crates|docs|bench|\.ci|specs|proofs|src|must-fail|data"
+ENDINGS = "rt|antt|edit|sh|py"
+FILE = re.compile(rf"^(?:\./)?((?:{FOLDERS})/[\w./-]*|[\w-]+\.(?:{ENDINGS}))$")
+IN_BLOCK = re.compile(r"(?<!\S)(?:\./)?((?:crates|docs|\.ci|bench)/[\w./-]+)")
+FOR_MANY = re.compile(r"(^|/)[A-Z]+(/|$)")
 WORDS = ("exactly where", "want of memory", "a front of", "is told")
 
 
@@ -52,9 +56,15 @@ def anchors(text):
     return re.findall(r'<a id="([^"]+)">', text), slugs
 
 
-def is_there(top, name):
-    places = [top, top / "docs", *sorted((top / "crates").glob("*"))]
-    return any((place / name).exists() for place in places)
+def files_of(top):
+    """All that a page may name: paths from the top and from each crate's folder, and bare names."""
+    found = set()
+    for folder, below, files in os.walk(top):
+        below[:] = [it for it in below if it not in ("out", ".git")]
+        for it in below + files:
+            path = (Path(folder) / it).relative_to(top)
+            found |= {str(path), it, "/".join(path.parts[2:]) if path.parts[0] == "crates" else it}
+    return found
 
 
 def codes_of_sources(top):
@@ -66,6 +76,8 @@ def codes_of_sources(top):
         for body in STATUSES.findall(text):
             for number in re.findall(r"=> (\d+),", body):
                 found.setdefault(f"status-{number}", file.relative_to(top))
+        for number in STATUS_CONSTANT.findall(text):
+            found.setdefault(f"status-{number}", file.relative_to(top))
     return found
 
 
@@ -73,6 +85,7 @@ def check(top):
     pages = {it: it.read_text(encoding="utf-8") for it in [top / "README.md", *sorted(top.glob("docs/*.md"))]}
     known = {it: anchors(text) for it, text in pages.items()}
     answers = set(known.get(top / "docs/answers.md", ([], []))[0])
+    files = files_of(top)
     faults = []
     for code, where in codes_of_sources(top).items():
         if code not in answers:
@@ -93,9 +106,9 @@ def check(top):
                 faults.append(f"{name}: no anchor {target}")
         for it in sorted({it.lower() for it in IN_PAGE.findall(prose)} - answers):
             faults.append(f"{name}: the code {it.upper()} has no anchor in docs/answers.md")
-        named = [it for it in re.findall(r"`([^`\n]+)`", prose) if FILE.match(it)] + IN_BLOCK.findall(code)
+        named = [it[1] for it in map(FILE.match, re.findall(r"`([^`\n]+)`", prose)) if it] + IN_BLOCK.findall(code)
         for it in sorted(set(named)):
-            if not NO_FILE.search(it) and not is_there(top, it):
+            if not FOR_MANY.search(it) and it.rstrip("/") not in files:
                 faults.append(f"{name}: no file {it}")
         plain = " ".join(prose.split()).lower()
         faults += [f"{name}: the words '{it}'" for it in WORDS if it in plain]
@@ -128,10 +141,11 @@ def self_test(top):
 
 def main():
     top = Path(__file__).resolve().parent.parent
-    faults = self_test(top) if "--self-test" in sys.argv[1:] else check(top)
-    for it in faults:
-        print(f"check_pages: {it}", file=sys.stderr)
-    print(f"check_pages: {len(faults)} faults" if faults else "check_pages: ok", file=sys.stderr)
+    tests_itself = "--self-test" in sys.argv[1:]
+    name = "check_pages --self-test" if tests_itself else "check_pages"
+    faults = self_test(top) if tests_itself else check(top)
+    for it in [*faults, f"{len(faults)} faults"] if faults else ["ok"]:
+        print(f"{name}: {it}", file=sys.stderr)
     return 1 if faults else 0
 
 
