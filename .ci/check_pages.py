@@ -4,8 +4,8 @@
 - Each relative link leads to a file of the repository, and its anchor is one of that page.
 - No page has one anchor twice.
 - Each refusal code has its anchor in docs/answers.md, `#p20` for P20: those of the sources, and those that a page
-  names. In the sources a code is a capital letter and one or two digits at the beginning of a string literal, as in
-  "P20 {} {}", or at the beginning of a document comment, as in `/// F1: a byte of the magic differs.`
+  names. In the sources (src/ and specs/) a code is a capital letter and one or two digits at the beginning of a string
+  literal, as in "P20 {} {}", or of a document comment, as in `/// F1: a byte of the magic differs.`
 - Each exit status has its anchor there, `#status-14`. A status is a number behind `=>` in a function `status`, or a
   constant whose document comment begins with `The status`.
 - Each file of the repository that a page names is there. In `..` that is a name that begins with a folder of FOLDERS,
@@ -37,14 +37,13 @@ WORDS = ("exactly where", "want of memory", "a front of", "is told")
 
 
 def blocks(text):
-    """The text without its code blocks, lines kept; and the code blocks."""
+    """The text without its code blocks, and the code blocks."""
     inside, prose, code = False, [], []
     for line in text.split("\n"):
-        fence = line.lstrip().startswith("```")
-        inside ^= fence
-        (code if inside and not fence else prose).append(line)
-        if inside or fence:
-            prose.append("") if not fence else None
+        if line.lstrip().startswith("```"):
+            inside = not inside
+        else:
+            (code if inside else prose).append(line)
     return "\n".join(prose), "\n".join(code)
 
 
@@ -69,7 +68,7 @@ def files_of(top):
 
 def codes_of_sources(top):
     found = {}
-    for file in sorted(top.glob("crates/*/src/**/*.rt")):
+    for file in sorted([*top.glob("crates/*/src/**/*.rt"), *top.glob("crates/*/specs/**/*.antt")]):
         text = file.read_text(encoding="utf-8")
         for it in IN_SOURCE.finditer(text):
             found.setdefault((it[1] or it[2]).lower(), file.relative_to(top))
@@ -86,8 +85,10 @@ def check(top):
     known = {it: anchors(text) for it, text in pages.items()}
     answers = set(known.get(top / "docs/answers.md", ([], []))[0])
     files = files_of(top)
-    faults = []
-    for code, where in codes_of_sources(top).items():
+    codes = codes_of_sources(top)
+    kinds = {it.startswith("status-") for it in codes}
+    faults = [] if kinds == {True, False} else ["the sources have no code, or no status: the patterns are out of date"]
+    for code, where in codes.items():
         if code not in answers:
             faults.append(f"{where}: {code} has no anchor in docs/answers.md")
     for page, text in pages.items():
