@@ -15,6 +15,8 @@ use Rattle.std.proofs.lemmas.Str.{digit_value_digit}
 use Rattle.std.proofs.lemmas.Str.Parse.{digit_from_value, digit_at}
 use Rattle.std.proofs.lemmas.Grind.{get_or_default_zero}
 use Rattle.byte_reading.specs.Decimal.{decimal_text, IsDecimal, IsNotDigits, StartsWithNoDigit, StartsWithNumber}
+use Rattle.byte_reading.specs.declared.decimal.DecimalFault.{DecimalFault}
+use Rattle.byte_reading.specs.declared.decimal.DecimalFault.TheVariants.{NotDigits, TooLarge}
 
 -- a digit's byte has the digit's value
 digit_value-glyph : (digit : ℕ) → digit < 10 → digit_value (48 + digit) ≡ digit
@@ -326,3 +328,11 @@ decimal_or_none text (d ∷ ds) rest is all leads = inr (record {
       let first : get_or text 0 0 ≡ d = rw is refl in
       absurd (leads some (first ∙ leading));
 })
+
+-- a fault of `leading_decimal` comes only if no number up to the limit leads the text
+pub none_leads : (text : List ℕ) (greatest : ℕ) (fault : DecimalFault) → (fault ≡ NotDigits → StartsWithNoDigit text) → (fault ≡ TooLarge → (n : ℕ) × (rest : List ℕ) × (greatest < n) × StartsWithNumber text n rest) → (n : ℕ) (rest : List ℕ) → n ≤ greatest → StartsWithNumber text n rest → ⊥
+none_leads text greatest NotDigits none large n rest below starts = no_number_starts text n rest (none refl) starts
+none_leads text greatest TooLarge none large n rest below starts =
+    let found = large refl in
+    let same = (one_leading_number text n rest found.0 found.1 starts found.3).0 in
+    omega (arith, same, found.2)
