@@ -5,7 +5,7 @@
 
 mod listed_cells;
 pub mod machine;
-pub mod memory;
+mod memory;
 mod segment;
 pub mod word;
 

@@ -57,7 +57,7 @@ pub enum InsertFault {
         /// The word that the cell has.
         had: Felt,
     },
-    /// Want of memory.
+    /// Memory ran out.
     #[error("out of memory")]
     Memory,
 }
@@ -111,7 +111,7 @@ impl Memory {
         ensures differs { (had : ℕ) → (result ≡ Err (InsertFault.Differs had)) ↔ ((map.get self.old addr ≡ Some had) × (had ≢ word)) }
         ensures err { OnErr result (self.new ≡ self.old) }
 
-        // Want of memory never comes of a cell that is listed.
+        // A cell that is listed already never runs out of memory.
         ensures same { map.get self.old addr ≡ Some word → result ≡ Ok tt }
     {
         let at = place_of(&self.segments, addr);
@@ -178,7 +178,7 @@ fn place_of(segments: &[Segment], addr: Felt) -> usize
     }
 }
 
-/// The word of a cell, which can be in the last of the segments that start at or below it alone.
+/// The word of a cell. No segment but the last that starts at or below the address can have it.
 fn word_at(segments: &[Segment], at: usize, addr: Felt) -> Option<Felt>
     requires apart { AreApart 0 segments.now }
     requires place { IsPlace segments.now addr at }
@@ -199,8 +199,8 @@ fn add(segments: &mut Vec<Segment>, at: usize, addr: Felt, word: Felt) -> Result
     ensures err { OnErr result (segments.new.items ≡ segments.old.items) }
     ensures fault { IfErr result (λ fault. fault ≡ InsertFault.Memory) }
 {
-    // Both are below P, as the number of each `Felt`, which keeps what is listed in the field.
-    let _numbers = (addr.value(), word.value());
+    // The number of a `Felt` is below P, so what is listed stays in the field.
+    let _in_field = (addr.value(), word.value());
     if at > 0 && segments[at - 1].ends_before(addr) {
         segments[at - 1].push(word)
     } else {
@@ -209,8 +209,8 @@ fn add(segments: &mut Vec<Segment>, at: usize, addr: Felt, word: Felt) -> Result
     }
 }
 
-/// Puts a segment in its place. Room grows by half, so that the segments of a file whose cells lie all apart take
-/// less than four times its bytes.
+/// Puts a segment in its place. Room grows by half, so a cell that lies apart from all others takes at most 60 bytes,
+/// less than four times the 16 that it has in a run file.
 fn open(segments: &mut Vec<Segment>, at: usize, segment: Segment) -> Result<(), InsertFault>
     requires { at ≤ length segments.old.items }
     ensures ok { OnOk result (segments.new.items ≡ insert segments.old.items at segment) }

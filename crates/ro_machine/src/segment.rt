@@ -1,5 +1,5 @@
 //! A segment of memory: cells with consecutive addresses, each with its word.
-//! The memory keeps its cells as segments in order of address, and is the only caller.
+//! A memory keeps its cells as segments in order of address, and the walk over its cells reads them.
 
 ghost use Rattle.std.specs.Prelude.{◌≡◌, ◌+◌, ◌-◌, ◌<◌, ◌≤◌, ◌↔◌, ◌++◌, ◌∷◌, [], ℕ, IsTrue, OnOk, OnErr, IfErr, length, slice_index};
 ghost use Rattle.felt64.specs.Field.{modulus};
@@ -10,6 +10,7 @@ use crate::memory::InsertFault;
 use felt64::Felt;
 use std::alloc::Global;
 use std::marker::Model;
+use std::mem::size_of;
 
 /// Cells with consecutive addresses, at least one. A segment of one cell takes no memory beside itself.
 #[derive(Debug, Drop)]
@@ -18,6 +19,9 @@ pub struct Segment {
     first: Felt,
     others: Vec<Felt>,
 }
+
+// The room of memory whose cells lie all apart.
+const _: () = prove!(size_of::<Segment>() == 40);
 
 impl Model for Segment {
     ghost use Rattle.ro_machine.specs.Stretches.{Stretch};
