@@ -1,4 +1,4 @@
-//! Reading bytes: decimal numbers in texts.
+//! Reading bytes: decimal numbers in texts, and numbers of eight bytes that come in pieces.
 //!
 //! Bytes come in, and the values that they write go out, or the first fault. The field's numbers, the readers of texts
 //! and the reader of run files stand on it.
@@ -8,6 +8,8 @@ mod decimal;
 mod laws;
 #[cfg(test)]
 mod tests;
+mod unfinished;
 
 pub use decimal::{DecimalFault, leading_decimal, read_decimal};
 pub use laws::{one_leading_number, one_text};
+pub use unfinished::Unfinished;

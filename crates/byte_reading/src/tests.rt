@@ -91,3 +91,23 @@ fn long_texts(rt: HostRuntime) -> Result<(), Fail> {
     );
     Ok(())
 }
+
+#[test]
+fn numbers_in_pieces(rt: HostRuntime) {
+    let bytes = [1u8, 2, 3, 4, 5, 6, 7, 8, 9, 10, 11, 12, 13, 14, 15, 16, 17];
+    for size in [1, 3, 7, 8, 9, 16, 17] {
+        let mut unfinished = Unfinished::new();
+        let mut numbers = [0x0807060504030201u64, 0x100f0e0d0c0b0a09].iter();
+        for piece in bytes.chunks(size) {
+            let mut rest = piece;
+            for _ in 0..3 {
+                if let Some(number) = unfinished.next(&mut rest) {
+                    let number = u64::from_le_bytes(number);
+                    assert_eq!(rt; numbers.next().copied(), Some(number), "by {size}");
+                }
+            }
+        }
+        assert_eq!(rt; numbers.next(), None, "by {size}");
+        assert_eq!(rt; unfinished.as_slice(), [17u8].as_slice(), "by {size}");
+    }
+}
