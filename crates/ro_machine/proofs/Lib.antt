@@ -1,2 +1,6 @@
-pub mod Place
+pub mod FirstFrom
+pub mod Lookups
+pub mod NewCells
+pub mod Order
 pub mod StepLaws
+pub mod Walks

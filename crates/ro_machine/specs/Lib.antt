@@ -1,4 +1,6 @@
 pub mod Cells
+pub mod Memory
 pub mod Step
 pub mod Stepping
+pub mod Stretches
 pub mod Word

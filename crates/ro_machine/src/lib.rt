@@ -3,10 +3,13 @@
 //! The trace check and, later, the runner stand on it.
 #![tactic(auto)]
 
+mod listed_cells;
 pub mod machine;
-pub mod memory;
+mod memory;
+mod segment;
 pub mod word;
 
+pub use listed_cells::ListedCells;
 pub use machine::{State, StepFault, step};
 pub use memory::{InsertFault, Memory};
 pub use word::{ApKind, Flags, Op1, Opcode, PcKind, ResKind, decode, word_parts, word_sums};

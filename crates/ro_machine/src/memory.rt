@@ -1,34 +1,51 @@
 //! Read-only memory: the cells that are listed, each with the word that it has for ever.
-//! Addresses and words come in one by one; what goes out is the word of a cell, or the first cell from an address on.
-//! The machine's steps, the trace check and the runner read it, and the readers of run files fill it.
+//! Addresses and words come in one by one; what goes out is the word of a cell, the first cell from an address on, or
+//! all cells in order of address.
+//! The machine's steps, the trace check and the runner read it, and the readers and writers of run files go through it.
 
-ghost use Rattle.std.specs.Prelude.{◌≡◌, ◌≢◌, ◌⊎◌, ◌↔◌, ℕ, length, IfSome, IfNone, IfOk, IfErr, OnOk, OnErr};
+ghost use Rattle.std.specs.Prelude.{◌≡◌, ◌≢◌, ◌⊎◌, ◌↔◌, ℕ, length, IfSome, IfNone, IfOk, IfErr, OnOk, OnErr, ◌≤◌};
 ghost use Rattle.std.specs.FinMap as map;
-ghost use Rattle.ro_machine.specs.Cells.{IsRising, IsAt, IsGapFor, IsFirstFrom, NoneFrom};
+ghost use Rattle.std.specs.List.{insert};
+ghost use Rattle.ro_machine.specs.Cells.{IsFirstFrom, NoneFrom};
+ghost use Rattle.ro_machine.specs.Memory.{IsMemory};
+ghost use Rattle.ro_machine.specs.Stretches.{AreApart, IsPlace, map_of, Adds};
 
+use crate::listed_cells::{ListedCells, listed_cells};
+use crate::segment::Segment;
 use felt64::Felt;
-use std::alloc::{AllocFailed, Global};
+use std::alloc::{AllocError, AllocFailed, Global};
 use std::marker::Model;
 use thiserror::Error;
 
-/// The listed cells, in order of address. A word that is listed never changes.
+/// The listed cells. A word that is listed never changes.
+///
+/// They are kept as segments of consecutive cells, in order of address. A look-up searches the starts of the segments
+/// and indexes, so it takes a few comparisons where memory is a few dense segments, as that of an honest run. A segment
+/// grows at its end in constant time, so segments that are filled in turn take linear time, and so do cells in order of
+/// address, also where each lies far from the next. Any other cell opens a segment, which moves the segments above it.
+///
+/// Segments never merge. Where a cell fills a gap it joins the segment below, and two segments touch; a cell right
+/// before a segment opens one of its own. Both leave one start more to search.
 #[derive(Debug, Drop)]
 pub struct Memory {
-    cells: Vec<(Felt, Felt)>,
+    segments: Vec<Segment>,
+    count: u64,
 }
 
 impl Model for Memory {
     ghost use Rattle.std.specs.Coded.{coded_ℕ};
-    ghost use Rattle.std.specs.FinMap.{from_entries, code};
-    ghost use Rattle.ro_machine.specs.Cells.{Cells, IsRising};
+    ghost use Rattle.std.specs.FinMap.{code};
+    ghost use Rattle.ro_machine.specs.Cells.{Cells};
 
     ghost Value = { Cells };
 
     ghost coded = { code coded_ℕ coded_ℕ };
 
-    ghost view = { λ m. from_entries m.cells.items };
+    ghost use Rattle.ro_machine.specs.Stretches.{map_of, IsKept};
 
-    ghost invariant = { λ m. IsRising m.cells.items };
+    ghost view = { λ m. map_of m.segments.items };
+
+    ghost invariant = { λ m. IsKept m.segments.items m.count };
 }
 
 /// Why a cell was not listed.
@@ -40,7 +57,7 @@ pub enum InsertFault {
         /// The word that the cell has.
         had: Felt,
     },
-    /// Want of memory.
+    /// Memory ran out.
     #[error("out of memory")]
     Memory,
 }
@@ -56,62 +73,85 @@ impl<T: Drop> From<AllocFailed<T>> for InsertFault {
     }
 }
 
+impl From<AllocError> for InsertFault {
+    ghost use Rattle.std.specs.Prelude.{◌≡◌};
+    ghost use Rattle.ro_machine.specs.declared.memory.InsertFault.TheVariants.{Memory};
+
+    ghost from_gives = { λ _ fault. fault ≡ Memory };
+
+    fn from(_: AllocError) -> InsertFault {
+        InsertFault::Memory
+    }
+}
+
 impl Memory {
     /// No cells. It takes no memory; later calls of `insert` take theirs from `alloc`.
     pub fn new(alloc: Global) -> Memory
         ensures { result ≡ map.empty }
     {
         Memory {
-            cells: Vec::new(alloc),
+            segments: Vec::new(alloc),
+            count: 0,
         }
     }
 
     /// The word of a cell. It takes no memory.
     pub fn get(&self, addr: Felt) -> Option<Felt>
-        ensures { result ≡ map.get self.now addr }
+        ensures word { result ≡ map.get self.now addr }
+        ensures in_field { IsMemory (map.get self.now) }
     {
-        match search(&self.cells, addr) {
-            Ok(at) => Some(self.cells[at].1),
-            Err(_) => None,
-        }
+        word_at(&self.segments, place_of(&self.segments, addr), addr)
     }
 
-    /// Lists a cell. A cell above the last one is added in constant time, so a file in order of address takes linear time.
+    /// Lists a cell. A cell behind the last one of a segment is added in constant time, and so is a cell above all
+    /// others. Any other cell moves the segments above it.
     pub fn insert(&mut self, addr: Felt, word: Felt) -> Result<(), InsertFault>
         ensures ok { OnOk result (self.new ≡ map.insert self.old addr word) }
         ensures listed { OnOk result ((map.get self.old addr ≡ None) ⊎ ((map.get self.old addr ≡ Some word) × (self.new ≡ self.old))) }
         ensures differs { (had : ℕ) → (result ≡ Err (InsertFault.Differs had)) ↔ ((map.get self.old addr ≡ Some had) × (had ≢ word)) }
         ensures err { OnErr result (self.new ≡ self.old) }
 
-        // Want of memory never comes of a cell that is listed.
+        // A cell that is listed already never runs out of memory.
         ensures same { map.get self.old addr ≡ Some word → result ≡ Ok tt }
     {
-        match search(&self.cells, addr) {
-            Ok(at) => {
-                let had = self.cells[at].1;
-                same(had, word)
+        let at = place_of(&self.segments, addr);
+        match word_at(&self.segments, at, addr) {
+            Some(had) => same(had, word),
+            None => {
+                add(&mut self.segments, at, addr, word)?;
+                self.count += 1;
+                Ok(())
             }
-            Err(at) => Ok(self.cells.insert(at, (addr, word))?),
         }
     }
 
-    /// The number of listed cells. It takes no memory.
+    /// The number of listed cells, in constant time. It takes no memory.
     pub fn len(&self) -> u64
-        ensures { result ≡ map.len self.now }
+        ensures count { result ≡ map.len self.now }
+        ensures in_field { IsMemory (map.get self.now) }
     {
-        self.cells.len() as u64
+        self.count
     }
 
     /// The listed cell of least address at or above `addr`. It takes no memory.
     pub fn from(&self, addr: Felt) -> Option<(Felt, Felt)>
         ensures first { IfSome result (IsFirstFrom self.now addr) }
         ensures none { IfNone result (NoneFrom self.now addr) }
+        ensures in_field { IsMemory (map.get self.now) }
     {
-        let at = match search(&self.cells, addr) {
-            Ok(at) => at,
-            Err(at) => at,
-        };
-        self.cells.get(at).copied()
+        let at = place_of(&self.segments, addr);
+        match word_at(&self.segments, at, addr) {
+            Some(word) => Some((addr, word)),
+            None => Some(self.segments.get(at)?.first()),
+        }
+    }
+
+    /// The listed cells in order of address, in linear time. It takes no memory.
+    pub fn cells(&self) -> ListedCells<'_>
+        ensures cells { result ≡ map.entries self.now }
+        ensures in_field { IsMemory (map.get self.now) }
+    {
+        listed_cells(&self.segments)
     }
 }
 
@@ -127,52 +167,144 @@ fn same(had: Felt, word: Felt) -> Result<(), InsertFault>
     }
 }
 
-/// Where the cell is, or where it would go. An address above the last one takes one comparison.
-fn search(cells: &[(Felt, Felt)], addr: Felt) -> Result<usize, usize>
-    requires { IsRising cells.now }
-    ensures found { IfOk result (IsAt cells.now addr) }
-    ensures absent { IfErr result (IsGapFor cells.now addr) }
+/// How many segments start at or below the address. An address from the last start on takes one comparison.
+fn place_of(segments: &[Segment], addr: Felt) -> usize
+    requires { AreApart 0 segments.now }
+    ensures { IsPlace segments.now addr result }
 {
-    match cells.last() {
-        Some(&(last, _)) if last.value() < addr.value() => Err(cells.len()),
-        _ => cells.binary_search_by_key(&addr.value(), |&(cell, _)| cell.value()),
+    match segments.last() {
+        Some(last) if last.start().value() <= addr.value() => segments.len(),
+        _ => segments.partition_point(|segment| segment.start().value() <= addr.value()),
     }
+}
+
+/// The word of a cell. No segment but the last that starts at or below the address can have it.
+fn word_at(segments: &[Segment], at: usize, addr: Felt) -> Option<Felt>
+    requires apart { AreApart 0 segments.now }
+    requires place { IsPlace segments.now addr at }
+    ensures { result ≡ map.get (map_of segments.now) addr }
+{
+    match at {
+        0 => None,
+        _ => segments[at - 1].get(addr),
+    }
+}
+
+/// Adds a cell that isn't listed to the segment that it lies behind, or else as a segment of its own.
+fn add(segments: &mut Vec<Segment>, at: usize, addr: Felt, word: Felt) -> Result<(), InsertFault>
+    requires apart { AreApart 0 segments.old.items }
+    requires place { IsPlace segments.old.items addr at }
+    requires unlisted { map.get (map_of segments.old.items) addr ≡ None }
+    ensures ok { OnOk result (Adds segments.old.items addr word segments.new.items) }
+    ensures err { OnErr result (segments.new.items ≡ segments.old.items) }
+    ensures fault { IfErr result (λ fault. fault ≡ InsertFault.Memory) }
+{
+    // The number of a `Felt` is below P, so what is listed stays in the field.
+    let _in_field = (addr.value(), word.value());
+    if at > 0 && segments[at - 1].ends_before(addr) {
+        segments[at - 1].push(word)
+    } else {
+        let segment = Segment::new(*segments.allocator(), addr, word);
+        open(segments, at, segment)
+    }
+}
+
+/// Puts a segment in its place. Room grows by half, so a cell that lies apart from all others takes at most 60 bytes,
+/// less than four times the 16 that it has in a run file.
+fn open(segments: &mut Vec<Segment>, at: usize, segment: Segment) -> Result<(), InsertFault>
+    requires { at ≤ length segments.old.items }
+    ensures ok { OnOk result (segments.new.items ≡ insert segments.old.items at segment) }
+    ensures err { OnErr result (segments.new.items ≡ segments.old.items) }
+    ensures fault { IfErr result (λ fault. fault ≡ InsertFault.Memory) }
+{
+    if segments.len() == segments.capacity() {
+        segments.reserve_exact(segments.len() / 2 + 1)?;
+    }
+    Ok(segments.insert(at, segment)?)
 }
 
 #[cfg(test)]
 mod tests {
     use super::*;
+    use felt64::MODULUS;
+    use std::alloc::AllocError;
     use std::test::Fail;
+
+    /// The greatest address.
+    const TOP: u64 = MODULUS - 1;
+
+    fn felt(n: u64) -> Felt {
+        Felt::reduce(n as u128)
+    }
+
+    fn pair(cell: (Felt, Felt)) -> (u64, u64) {
+        (cell.0.value(), cell.1.value())
+    }
 
     #[test]
     fn lists_each_cell_once(rt: HostRuntime) -> Result<(), Fail> {
         let mut memory = Memory::new(rt.alloc());
-        let felt = |n: u32| Felt::from(n);
         assert_eq!(rt; memory.from(felt(0)), None);
-        for (addr, word, result) in [
-            (3, 5, Ok(())),
-            (3, 6, Err(InsertFault::Differs { had: felt(5) })),
-            (3, 5, Ok(())),
-            (9, 1, Ok(())),
-            (1, 2, Ok(())),
-            (7, 3, Ok(())),
+        for (addr, word, had) in [
+            // two segments in turn, each from its first cell up
+            (100, 1, None),
+            (200, 2, None),
+            (101, 3, None),
+            (201, 4, None),
+            // equal and differing words, of the first cell of a segment and of a later one
+            (100, 1, None),
+            (100, 2, Some(1)),
+            (201, 4, None),
+            (201, 5, Some(4)),
+            // a cell right before a segment, and one that fills a gap
+            (99, 6, None),
+            (104, 7, None),
+            (103, 8, None),
+            (102, 9, None),
+            (102, 8, Some(9)),
+            // cells far apart, and both ends of the field
+            (0, 10, None),
+            (TOP, 11, None),
+            (TOP, 12, Some(11)),
+            (1 << 40, TOP, None),
         ] {
+            let result = match had {
+                None => Ok(()),
+                Some(had) => Err(InsertFault::Differs { had: felt(had) }),
+            };
             assert_eq!(rt; memory.insert(felt(addr), felt(word)), result, "at {addr}");
         }
-        assert_eq!(rt; memory.len(), 4);
-        for (addr, word, cell) in [
-            (0, None, Some((1, 2))),
-            (3, Some(5), Some((3, 5))),
-            (4, None, Some((7, 3))),
-            (9, Some(1), Some((9, 1))),
-            (10, None, None),
+        let cells = [
+            (0, 10),
+            (99, 6),
+            (100, 1),
+            (101, 3),
+            (102, 9),
+            (103, 8),
+            (104, 7),
+            (200, 2),
+            (201, 4),
+            (1 << 40, TOP),
+            (TOP, 11),
+        ];
+        assert_eq!(rt; memory.len(), cells.len() as u64);
+        let listed: Result<Vec<(u64, u64)>, AllocError> = memory
+            .cells()
+            .map(pair)
+            .collect(rt.alloc());
+        assert_eq!(rt; listed?.as_slice(), cells.as_slice());
+        for (addr, word, next) in [
+            (0, Some(10), Some((0, 10))),
+            (1, None, Some((99, 6))),
+            (99, Some(6), Some((99, 6))),
+            (102, Some(9), Some((102, 9))),
+            (105, None, Some((200, 2))),
+            (202, None, Some((1 << 40, TOP))),
+            (TOP - 1, None, Some((TOP, 11))),
+            (TOP, Some(11), Some((TOP, 11))),
         ] {
             assert_eq!(rt; memory.get(felt(addr)), word.map(felt), "at {addr}");
-            assert_eq!(rt;
-                memory.from(felt(addr)),
-                cell.map(|(a, w)| (felt(a), felt(w))),
-                "at {addr}"
-            );
+            assert_eq!(rt; memory.from(felt(addr)).map(pair), next, "at {addr}");
         }
         Ok(())
     }

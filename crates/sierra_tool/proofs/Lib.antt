@@ -4,6 +4,5 @@ pub mod CommandLaws
 pub mod FormLaws
 pub mod ExactStatus
 pub mod OneAnswer
-pub mod ScanLemmas
 pub mod Soundness
 pub mod OutputLaws

@@ -1,11 +1,11 @@
 //! The input of the form of program that is built: a gas number and one argument. A text comes in, and the input that it
 //! is goes out, where it is one. The check reads it.
 
-ghost use Rattle.std.specs.Prelude.{◌≡◌, ◌↔◌, ◌<◌, ◌^◌, ℕ, Some, decimal};
+ghost use Rattle.std.specs.Prelude.{◌≡◌, ◌↔◌, Some};
 ghost use Rattle.sierra_tool.specs.Forms.{IsInput};
 
-use crate::scan::{digits_after, read_felt};
-use felt64::Felt;
+use crate::scan::number_behind;
+use felt64::{Felt, MODULUS};
 
 /// What a run starts with.
 #[derive(Clone, Copy, Debug, PartialEq, Eq)]
@@ -24,23 +24,16 @@ const LINE_END: &[u8] = b"\n";
 pub fn read_input(text: &[u8]) -> Option<Input>
     ensures { (input : Input) → (result ≡ Some input) ↔ IsInput text.now input }
 {
-    let (gas_digits, line) = digits_after(text, GAS)?;
-    let gas = read_gas(gas_digits)?;
-    let (argument_digits, end) = digits_after(line, LINE_END)?;
-    let argument = read_felt(argument_digits)?;
+    let (gas, line) = number_behind(text, GAS, u32::MAX as u128)?;
+    let (argument, end) = number_behind(line, LINE_END, MODULUS as u128 - 1)?;
     if end == LINE_END {
-        Some(Input { gas, argument })
+        Some(Input {
+            gas: gas as u32,
+            argument: Felt::reduce(argument),
+        })
     } else {
         None
     }
-}
-
-/// The gas that these digits write.
-fn read_gas(digits: &[u8]) -> Option<u32>
-    ensures { (gas : ℕ) → (result ≡ Some gas) ↔ ((gas < 2 ^ 32) × (digits.now ≡ decimal gas)) }
-{
-    let gas = Felt::read_decimal(digits).ok()?;
-    u32::try_from(gas.value()).ok()
 }
 
 #[cfg(test)]

@@ -4,8 +4,8 @@
 ghost use Rattle.std.specs.Prelude.{◌≡◌, ◌↔◌, Some};
 ghost use Rattle.sierra_tool.specs.Forms.{IsProgram};
 
-use crate::scan::{after_both, digits_after, read_felt};
-use felt64::Felt;
+use crate::scan::number_behind;
+use felt64::{Felt, MODULUS};
 
 /// A program that adds a constant to its one argument.
 #[derive(Clone, Copy, Debug, PartialEq, Eq)]
@@ -13,6 +13,8 @@ pub struct Program {
     /// What is added.
     pub constant: Felt,
 }
+
+const GREATEST: u128 = MODULUS as u128 - 1;
 
 const HEAD: &[u8] = b"type felt64 = felt64;\n\nlibfunc felt64_const<";
 
@@ -28,12 +30,16 @@ const END: &[u8] =
 pub fn read_program(text: &[u8]) -> Option<Program>
     ensures { (program : Program) → (result ≡ Some program) ↔ IsProgram text.now program }
 {
-    let (digits, declared) = digits_after(text, HEAD)?;
-    let constant = read_felt(digits)?;
-    let body = after_both(declared, DECLARED, digits)?;
-    let end = after_both(body, BODY, digits)?;
+    let (constant, declared) = number_behind(text, HEAD, GREATEST)?;
+    let (second, body) = number_behind(declared, DECLARED, GREATEST)?;
+    let (third, end) = number_behind(body, BODY, GREATEST)?;
+    if second != constant || third != constant {
+        return None;
+    }
     if end == END {
-        Some(Program { constant })
+        Some(Program {
+            constant: Felt::reduce(constant),
+        })
     } else {
         None
     }

@@ -13,7 +13,7 @@ one_value o m n first second = cc
 pub unwrap-requires : goal.unwrap-requires
 unwrap-requires c =
     let run = c.args.run.now in
-    let listed = c.get.ensures ∙ cell_at_end c.args.program.now c.args.input.now run.rc (get run.memory) run.states c.requires.accepted _ _ _ _ c.as_slice-states.ensures c.index-states-steps.is c.from.ensures c.sub-end.ensures in
+    let listed = c.get.ensures.word ∙ cell_at_end c.args.program.now c.args.input.now run.rc (get run.memory) run.states c.requires.accepted _ _ _ _ c.as_slice-states.ensures c.index-states-steps.is c.from.ensures c.sub-end.ensures in
     rw listed refl
 
 -- so the verdict is shown, and what is shown is meant
@@ -27,7 +27,7 @@ returns c =
     let enough = c.requires.gas in
     let left = c.from-2.ensures in
     let used = c.from-3.ensures in
-    let listed = c.get.ensures ∙ cell_at_end program input run.rc cells run.states accepted _ _ _ _ c.as_slice-states.ensures c.index-states-steps.is c.from.ensures c.sub-end.ensures in
+    let listed = c.get.ensures.word ∙ cell_at_end program input run.rc cells run.states accepted _ _ _ _ c.as_slice-states.ensures c.index-states-steps.is c.from.ensures c.sub-end.ensures in
     let value : c.unwrap.result ≡ sum input.argument program.constant = one_value c.get.result _ _ c.unwrap.ensures listed in
     let verdict : Verdict = record { outcome = record { panic = false; value = c.unwrap.result; gas_left = c.from-2.result; gas_used = c.from-3.result }; steps = length c.as_slice-states.result.now - 1; checks = 0 } in
     let gas_left : c.from-2.result + 300 ≡ input.gas = omega arith in

@@ -1,44 +1,43 @@
 -- Each exit refutes what a program's text has at that place; the last one has all of it.
-use Rattle.std.proofs.Common.{ℕ, Some, refl, sym, ap, subst, ◌∙◌}
-use Rattle.std.specs.Prelude.{decimal}
+use Rattle.std.proofs.Common.{Some, inl, inr, refl, sym, ap, subst, ◌∙◌}
 use Rattle.std.proofs.lemmas.Bool.{false≢true}
 use Rattle.std.proofs.lemmas.Bool.Decides.{Decides-eqb}
 use Rattle.std.proofs.lemmas.Slice.Eq.{slice_eq-Decides}
-use Rattle.std.proofs.lemmas.Option.{none-some, same_Some}
+use Rattle.std.proofs.lemmas.Option.{same_Some}
 use Rattle.sierra_tool.specs.Forms.{IsProgram}
 use Rattle.sierra_tool.specs.declared.program.Program.{Program}
-use Rattle.sierra_tool.specs.declared.program.TheConstants.{DECLARED, END}
-use Rattle.sierra_tool.proofs.FormLaws.{program_number, program_body, program_end, is_program, other_digits}
+use Rattle.sierra_tool.specs.declared.program.TheConstants.{END}
+use Rattle.sierra_tool.proofs.FormLaws.{first_constant, second_read, third_read, are_parts, is_program, one_program}
 use Rattle.sierra_tool.proofs.program.read_program.Goals as goal
 
 -- the text doesn't begin as a program's does
-pub returns-in_err-digits : goal.returns-in_err-digits
-returns-in_err-digits c program = (λ same. absurd cc, λ is. absurd (c.in_err-digits.ensures _ is.text_is))
-
--- the digits are no number of the field
 pub returns-in_err-constant : goal.returns-in_err-constant
-returns-in_err-constant c program = (
+returns-in_err-constant c program = (λ same. absurd cc, λ is. absurd (c.in_err-constant.ensures _ _ (first_constant _ program is)))
+
+-- the constant is not declared
+pub returns-in_err-second : goal.returns-in_err-second
+returns-in_err-second c program = (
   λ same. absurd cc,
-  λ is.
-      let number = program_number _ _ _ program c.in_ok-digits.ensures is in
-      absurd (none-some program.constant ((c.in_err-constant.ensures program.constant).1 (is.below, number.0))),
+  λ is. absurd (c.in_err-second.ensures _ _ (second_read _ _ _ program c.in_ok-constant.ensures is)),
 )
 
--- the constant is declared by another name
-pub returns-in_err-body : goal.returns-in_err-body
-returns-in_err-body c program = (
+-- the body has no constant
+pub returns-in_err-third : goal.returns-in_err-third
+returns-in_err-third c program = (
   λ same. absurd cc,
-  λ is.
-      let number = program_number _ _ _ program c.in_ok-digits.ensures is in
-      absurd (c.in_err-body.ensures _ (other_digits _ DECLARED.now _ (decimal program.constant) _ number.0 number.1)),
+  λ is. absurd (c.in_err-third.ensures _ _ (third_read _ _ _ _ _ program c.in_ok-constant.ensures c.in_ok-second.ensures is)),
 )
 
--- the body doesn't begin as a program's does, or has another constant
-pub returns-in_err-end : goal.returns-in_err-end
-returns-in_err-end c program = (
+-- the constant is another at a later place
+pub returns-then-second-constant : goal.returns-then-second-constant
+returns-then-second-constant c program = (
   λ same. absurd cc,
   λ is.
-      absurd (c.in_err-end.ensures _ (program_body _ _ _ _ program c.in_ok-digits.ensures is c.in_ok-body.ensures)),
+      let parts = are_parts _ _ _ _ _ program (record { declared = _; body = _; at_head = c.in_ok-constant.ensures; at_declared = c.in_ok-second.ensures; at_body = c.in_ok-third.ensures }) is in
+      elim c.then-second-constant.either [
+        | inl other ↦ absurd (other (parts.second_is ∙ sym parts.first_is))
+        | inr other ↦ absurd (other.1 (parts.third_is ∙ sym parts.first_is))
+      ],
 )
 
 -- the text doesn't end as a program's does
@@ -46,21 +45,16 @@ pub returns-else-eq : goal.returns-else-eq
 returns-else-eq c program = (
   λ same. absurd cc,
   λ is.
-      let end = program_end _ _ _ _ _ program c.in_ok-digits.ensures is c.in_ok-body.ensures c.in_ok-end.ensures in
-      let ends = slice_eq-Decides Decides-eqb c.in_ok-end.end.now END.now c.eq.result c.eq.ensures in
-      absurd (false≢true (sym c.if-eq.false ∙ ends.1 end)),
+      let parts = are_parts _ _ _ _ _ program (record { declared = _; body = _; at_head = c.in_ok-constant.ensures; at_declared = c.in_ok-second.ensures; at_body = c.in_ok-third.ensures }) is in
+      let ends = slice_eq-Decides Decides-eqb c.in_ok-third.end.now END.now c.eq.result c.eq.ensures in
+      absurd (false≢true (sym c.if-eq.false ∙ ends.1 parts.end_is)),
 )
 
 -- the text has each part, and its constant is the one that was read
 pub returns-then-eq : goal.returns-then-eq
 returns-then-eq c program =
-    let constant = c.in_ok-constant.constant in
-    let ends = slice_eq-Decides Decides-eqb c.in_ok-end.end.now END.now c.eq.result c.eq.ensures in
-    let read = (c.in_ok-constant.ensures constant).0 refl in (
-      λ same. subst (λ (p : Program). IsProgram c.args.text.now p) (same_Some _ _ same)
-          (is_program _ _ _ _ _ constant c.in_ok-digits.ensures c.in_ok-body.ensures c.in_ok-end.ensures (ends.0 c.if-eq.true) read.1 read.0),
-      λ is.
-          let number = program_number _ _ _ program c.in_ok-digits.ensures is in
-          let same = same_Some constant program.constant ((c.in_ok-constant.ensures program.constant).1 (is.below, number.0)) in
-          ap (λ (n : ℕ). Some (record { constant = n })) same,
+    let ends = slice_eq-Decides Decides-eqb c.in_ok-third.end.now END.now c.eq.result c.eq.ensures in
+    let found = is_program _ c.reduce.result _ _ _ _ (record { declared = _; body = _; at_head = c.in_ok-constant.ensures; at_declared = c.in_ok-second.ensures; at_body = c.in_ok-third.ensures }) (record { first_is = refl; second_is = c.if-second-constant.false; third_is = c.if-third-constant.false; end_is = ends.0 c.if-eq.true }) c.reduce.ensures in (
+      λ same. subst (λ (p : Program). IsProgram c.args.text.now p) (same_Some _ _ same) found,
+      λ is. ap Some (one_program c.args.text.now _ program found is),
     )

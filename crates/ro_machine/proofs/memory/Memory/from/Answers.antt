@@ -1,23 +1,26 @@
-use Rattle.std.proofs.Common.{IfSome, IfNone, ◌⊎◌, inl, inr, ◌∙◌}
-use Rattle.ro_machine.specs.Cells.{IsAt, IsGapFor, IsFirstFrom, NoneFrom}
-use Rattle.ro_machine.proofs.Place.{copied_at, first_from}
+use Rattle.ro_machine.proofs.FirstFrom.{first_of_item, none_of_item}
+use Rattle.ro_machine.proofs.Order.{in_field}
 use Rattle.ro_machine.proofs.memory.Memory.from.Goals as goal
-use Rattle.ro_machine.proofs.memory.Memory.from.Goals.{in-Ok, in-Err}
 
-place : (c : goal.After-copied) → (IsAt c.self.inside.cells.items c.args.addr c.match-search.at) ⊎ (IsGapFor c.self.inside.cells.items c.args.addr c.match-search.at)
-place c =
-    elim c.match-search.branch [
-      | in-Ok w ↦ inl (rw (← c.deref.ensures.value, w.at-is) w.in-Ok.ensures.found)
-      | in-Err w ↦ inr (rw (← c.deref.ensures.value, w.at-is) w.in-Err.ensures.absent)
-    ]
+pub returns-in_err-get-in-None-clause-none : goal.returns-in_err-get-in-None-clause-none
+returns-in_err-get-in-None-clause-none c =
+    let place = rw c.deref.ensures.value at c.place_of-at.ensures in
+    let unlisted = rw c.deref-2.ensures.value at c.in-None.ensures in
+    let item = rw c.deref-in-None.ensures.value at c.in_err-get-in-None.ensures.lookup in
+    rw c.from_residual.ensures (none_of_item _ _ _ _ c.self.invariant.apart c.self.view_is place unlisted item)
 
-found : (c : goal.After-copied) → record { first : IfSome c.copied.result (IsFirstFrom c.args.self.now c.args.addr); none : IfNone c.copied.result (NoneFrom c.args.self.now c.args.addr) }
-found c =
-    let read = c.copied.ensures ∙ copied_at _ _ _ (rw c.deref-2.ensures.value at c.get.ensures.lookup) in
-    first_from _ c.self.invariant _ _ (place c) _ c.self.view_is _ read
+pub returns-in_err-get-in-None-clause-in_field : goal.returns-in_err-get-in-None-clause-in_field
+returns-in_err-get-in-None-clause-in_field c = in_field _ c.self.invariant.apart _ c.self.view_is
 
-pub returns-clause-first : goal.returns-clause-first
-returns-clause-first c = (found c).first
+pub returns-in-Some-clause-in_field : goal.returns-in-Some-clause-in_field
+returns-in-Some-clause-in_field c = in_field _ c.self.invariant.apart _ c.self.view_is
 
-pub returns-clause-none : goal.returns-clause-none
-returns-clause-none c = (found c).none
+pub returns-in_ok-get-in-None-clause-first : goal.returns-in_ok-get-in-None-clause-first
+returns-in_ok-get-in-None-clause-first c =
+    let place = rw c.deref.ensures.value at c.place_of-at.ensures in
+    let unlisted = rw c.deref-2.ensures.value at c.in-None.ensures in
+    let item = rw c.deref-in-None.ensures.value at c.in_ok-get-in-None.ensures.lookup in
+    rw c.first.ensures (first_of_item _ _ _ _ c.in_ok-get-in-None.field-0 c.self.invariant.apart c.self.view_is place unlisted item)
+
+pub returns-in_ok-get-in-None-clause-in_field : goal.returns-in_ok-get-in-None-clause-in_field
+returns-in_ok-get-in-None-clause-in_field c = in_field _ c.self.invariant.apart _ c.self.view_is
