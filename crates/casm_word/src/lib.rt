@@ -7,12 +7,16 @@
 
 mod cell_expr;
 mod code;
+mod decoding;
+mod encoding;
 mod flags;
 mod instr;
 mod rules;
 
 pub use cell_expr::{At, CellExpr, Side};
 pub use code::Code;
+pub use decoding::decode;
+pub use encoding::{Encoded, flags_of};
 pub use flags::{ApKind, Flags, Op1, Opcode, PcKind, ResKind};
 pub use instr::{CellRef, Instr, Operand, Reg, Res};
 pub use rules::{Rule, WordFault};

@@ -33,3 +33,14 @@ pub enum WordFault {
     #[error("the word joins flags that no instruction has together")]
     Undefined(Rule),
 }
+
+impl From<Rule> for WordFault {
+    ghost use Rattle.std.specs.Prelude.{◌≡◌};
+    ghost use Rattle.casm_word.specs.declared.rules.WordFault.TheVariants.{Undefined};
+
+    ghost from_gives = { λ rule fault. fault ≡ Undefined rule };
+
+    fn from(rule: Rule) -> WordFault {
+        WordFault::Undefined(rule)
+    }
+}
