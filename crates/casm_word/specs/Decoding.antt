@@ -62,14 +62,17 @@ abbrev pub opcode_in : ℕ → Option Opcode
 opcode_in word = one_of_three (field word 60 3) opcode.Nop opcode.Call opcode.Ret opcode.AssertEq
 
 -- the flags of each kind, or the first rule of two flags of one kind
-unfoldable pub kinds_in : ℕ → Result Kinds Rule
-kinds_in word = do
-  op1 ← or_rule (op1_in word) TwoOp1Flags
-  res ← or_rule (res_in word) TwoResFlags
-  pc ← or_rule (pc_in word) TwoPcFlags
-  ap ← or_rule (ap_in word) TwoApFlags
-  opcode ← or_rule (opcode_in word) TwoOpcodes
+unfoldable pub kinds_of : Option Op1 → Option ResKind → Option PcKind → Option ApKind → Option Opcode → Result Kinds Rule
+kinds_of op1_found res_found pc_found ap_found opcode_found = do
+  op1 ← or_rule op1_found TwoOp1Flags
+  res ← or_rule res_found TwoResFlags
+  pc ← or_rule pc_found TwoPcFlags
+  ap ← or_rule ap_found TwoApFlags
+  opcode ← or_rule opcode_found TwoOpcodes
   Ok (record { op1 = op1; res = res; pc = pc; ap = ap; opcode = opcode })
+
+abbrev pub kinds_in : ℕ → Result Kinds Rule
+kinds_in word = kinds_of (op1_in word) (res_in word) (pc_in word) (ap_in word) (opcode_in word)
 
 -- pc_jnz stands beside a res flag, an opcode or ap_add
 abbrev pub jnz_beside_others : PcKind → ResKind → Opcode → ApKind → Bool

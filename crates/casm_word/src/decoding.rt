@@ -6,6 +6,7 @@ ghost use Rattle.casm_word.specs.Word.{Word};
 ghost use Rattle.casm_word.specs.Rules.{HasHighBit, IsUndefinedBy};
 ghost use Rattle.casm_word.specs.Decoding.{field, unbiased, one_of_three, one_of_two, kinds_in, broken_rule, jnz_beside_others, call_beside_ap_flag, decoded};
 
+use crate::bits;
 use crate::flags::{ApKind, Flags, Op1, Opcode, PcKind, ResKind};
 use crate::rules::{Rule, WordFault};
 
@@ -65,22 +66,22 @@ fn one_of_two<T: Copy>(bits: u64, none: T, first: T, second: T) -> Option<T>
 
 impl Kinds {
     /// The flags of each kind in a word, or the first of the rules on two flags of one kind that it meets.
-    #[tactic(auto, unfolding(crate::specs::Decoding::kinds_in))]
+    #[tactic(auto, unfolding(crate::specs::Decoding::kinds_of))]
     fn of(word: u64) -> Result<Kinds, Rule>
         ensures { result ≡ kinds_in word }
     {
-        let op1 = one_of_three(field(word, 50, 3), Op1::Op0, Op1::Imm, Op1::Fp, Op1::Ap);
-        let res = one_of_two(field(word, 53, 2), ResKind::Op1, ResKind::Add, ResKind::Mul);
+        let op1 = one_of_three(field(word, bits::FLAGS + bits::OP1_IMM, 3), Op1::Op0, Op1::Imm, Op1::Fp, Op1::Ap);
+        let res = one_of_two(field(word, bits::FLAGS + bits::RES_ADD, 2), ResKind::Op1, ResKind::Add, ResKind::Mul);
         let pc = one_of_three(
-            field(word, 55, 3),
+            field(word, bits::FLAGS + bits::PC_JUMP_ABS, 3),
             PcKind::Next,
             PcKind::Abs,
             PcKind::Rel,
             PcKind::Jnz,
         );
-        let ap = one_of_two(field(word, 58, 2), ApKind::Keep, ApKind::Add, ApKind::Inc);
+        let ap = one_of_two(field(word, bits::FLAGS + bits::AP_ADD, 2), ApKind::Keep, ApKind::Add, ApKind::Inc);
         let opcode = one_of_three(
-            field(word, 60, 3),
+            field(word, bits::FLAGS + bits::OPCODE_CALL, 3),
             Opcode::Nop,
             Opcode::Call,
             Opcode::Ret,
@@ -148,8 +149,8 @@ pub fn decode(word: u64) -> Result<Flags, WordFault>
             off_dst: offset(word, 0),
             off_op0: offset(word, 16),
             off_op1,
-            dst_fp: field(word, 48, 1) == 1,
-            op0_fp: field(word, 49, 1) == 1,
+            dst_fp: field(word, bits::FLAGS + bits::DST_REG, 1) == 1,
+            op0_fp: field(word, bits::FLAGS + bits::OP0_REG, 1) == 1,
             op1: kinds.op1,
             res: kinds.res,
             pc: kinds.pc,

@@ -1,11 +1,12 @@
 //! From instructions to words: the flags of an instruction, the word of flags, and an instruction with its immediate.
 //! The printer of words and the layout of a program's code call it.
 
-ghost use Rattle.std.specs.Prelude.{◌≡◌};
+ghost use Rattle.std.specs.Prelude.{◌≡◌, ◌+◌, ◌*◌, ◌^◌, ◌<◌, ◌≤◌};
 ghost use Rattle.casm_word.specs.Parts.{IsDefined};
-ghost use Rattle.casm_word.specs.Word.{biased, set_if, op1_flag, res_flag, pc_flag, ap_flag, opcode_flag, word_of};
+ghost use Rattle.casm_word.specs.Word.{biased, op1_flag, res_flag, pc_flag, ap_flag, opcode_flag, word_of, Word};
 ghost use Rattle.casm_word.specs.Encoding.{is_fp, with_operand, sources_of, from_reg, jump_kind, inc_kind, flags_with, flags_of, immediate, operand_immediate, res_immediate, encoded};
 
+use crate::bits;
 use crate::flags::{ApKind, Flags, Op1, Opcode, PcKind, ResKind};
 use crate::instr::{CellRef, Instr, Operand, Reg, Res};
 
@@ -167,4 +168,149 @@ fn inc_kind(ap_inc: bool) -> ApKind
     ensures { result ≡ inc_kind ap_inc }
 {
     if ap_inc { ApKind::Inc } else { ApKind::Keep }
+}
+
+/// The word of flags. It takes no memory.
+///
+/// It is the sum of the offsets, each with 2^15 added, and of the flags, each at its bit; [`crate::decode`] gives the
+/// flags back.
+pub fn word_of(f: &Flags) -> u64
+    ensures word { Word f.now result }
+    ensures value { result ≡ word_of f.now }
+{
+    let offsets =
+        biased(f.off_dst) + biased(f.off_op0) * (1 << 16) + biased(f.off_op1) * (1 << 32);
+    let registers =
+        bits::set_if(f.dst_fp, bits::DST_REG) + bits::set_if(f.op0_fp, bits::OP0_REG);
+    offsets
+        + registers
+        + f.op1.flag()
+        + f.res.flag()
+        + f.pc.flag()
+        + f.ap.flag()
+        + f.opcode.flag()
+}
+
+/// An offset as it stands in a word.
+fn biased(off: i16) -> u64
+    ensures value { result ≡ biased off }
+    ensures bound { result < 2 ^ 16 }
+{
+    (i32::from(off) + 0x8000) as u64
+}
+
+impl Op1 {
+    fn flag(self) -> u64
+        ensures value { result ≡ op1_flag self }
+        ensures bound { result ≤ 2 ^ 52 }
+    {
+        match self {
+            Op1::Op0 => 0,
+            Op1::Imm => bits::set(bits::OP1_IMM),
+            Op1::Fp => bits::set(bits::OP1_FP),
+            Op1::Ap => bits::set(bits::OP1_AP),
+        }
+    }
+}
+
+impl ResKind {
+    fn flag(self) -> u64
+        ensures value { result ≡ res_flag self }
+        ensures bound { result ≤ 2 ^ 54 }
+    {
+        match self {
+            ResKind::Op1 => 0,
+            ResKind::Add => bits::set(bits::RES_ADD),
+            ResKind::Mul => bits::set(bits::RES_MUL),
+        }
+    }
+}
+
+impl PcKind {
+    fn flag(self) -> u64
+        ensures value { result ≡ pc_flag self }
+        ensures bound { result ≤ 2 ^ 57 }
+    {
+        match self {
+            PcKind::Next => 0,
+            PcKind::Abs => bits::set(bits::PC_JUMP_ABS),
+            PcKind::Rel => bits::set(bits::PC_JUMP_REL),
+            PcKind::Jnz => bits::set(bits::PC_JNZ),
+        }
+    }
+}
+
+impl ApKind {
+    fn flag(self) -> u64
+        ensures value { result ≡ ap_flag self }
+        ensures bound { result ≤ 2 ^ 59 }
+    {
+        match self {
+            ApKind::Keep => 0,
+            ApKind::Add => bits::set(bits::AP_ADD),
+            ApKind::Inc => bits::set(bits::AP_ADD1),
+        }
+    }
+}
+
+impl Opcode {
+    fn flag(self) -> u64
+        ensures value { result ≡ opcode_flag self }
+        ensures bound { result ≤ 2 ^ 62 }
+    {
+        match self {
+            Opcode::Nop => 0,
+            Opcode::Call => bits::set(bits::OPCODE_CALL),
+            Opcode::Ret => bits::set(bits::OPCODE_RET),
+            Opcode::AssertEq => bits::set(bits::OPCODE_ASSERT_EQ),
+        }
+    }
+}
+
+/// The word of an instruction, and its immediate. It takes no memory.
+pub fn encode(i: &Instr) -> Encoded
+    ensures { result ≡ encoded i.now }
+{
+    Encoded {
+        word: word_of(&flags_of(i)),
+        imm: i.immediate(),
+    }
+}
+
+impl Instr {
+    /// The number that stands in the cell behind the instruction's word, where there is one.
+    pub fn immediate(&self) -> Option<u64>
+        ensures { result ≡ immediate self.now }
+    {
+        match *self {
+            Instr::AssertEq { res, .. } => res.immediate(),
+            Instr::Jump { to, .. } => to.immediate(),
+            Instr::Jnz { to, .. } | Instr::Call { to, .. } => to.immediate(),
+            Instr::AddAp { by } => by.immediate(),
+            Instr::Ret => None,
+        }
+    }
+}
+
+impl Res {
+    fn immediate(self) -> Option<u64>
+        ensures { result ≡ res_immediate self }
+    {
+        match self {
+            Res::Cell(_) | Res::Double(..) => None,
+            Res::Imm(n) => Some(n),
+            Res::Add(_, operand) | Res::Mul(_, operand) => operand.immediate(),
+        }
+    }
+}
+
+impl Operand {
+    fn immediate(self) -> Option<u64>
+        ensures { result ≡ operand_immediate self }
+    {
+        match self {
+            Operand::Cell(_) => None,
+            Operand::Imm(n) => Some(n),
+        }
+    }
 }

@@ -5,6 +5,7 @@
 //! libfuncs emit instructions and name cells by expressions.
 #![tactic(auto)]
 
+mod bits;
 mod cell_expr;
 mod code;
 mod decoding;
@@ -14,9 +15,9 @@ mod instr;
 mod rules;
 
 pub use cell_expr::{At, CellExpr, Side};
-pub use code::Code;
+pub use code::{Code, words};
 pub use decoding::decode;
-pub use encoding::{Encoded, flags_of};
+pub use encoding::{Encoded, encode, flags_of, word_of};
 pub use flags::{ApKind, Flags, Op1, Opcode, PcKind, ResKind};
 pub use instr::{CellRef, Instr, Operand, Reg, Res};
 pub use rules::{Rule, WordFault};
