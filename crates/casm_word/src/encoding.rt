@@ -269,7 +269,8 @@ impl Opcode {
 
 /// The word of an instruction, and its immediate. It takes no memory.
 pub fn encode(i: &Instr) -> Encoded
-    ensures { result ≡ encoded i.now }
+    ensures value { result ≡ encoded i.now }
+    ensures word { Word (flags_of i.now) result.word }
 {
     Encoded {
         word: word_of(&flags_of(i)),
