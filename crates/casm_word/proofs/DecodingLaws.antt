@@ -22,7 +22,7 @@ use Rattle.casm_word.specs.Offset.{IsNear}
 use Rattle.casm_word.specs.Parts.{IsDefined}
 use Rattle.casm_word.specs.Word.{Word, AreNear, word_of, biased, pc_jnz, opcode_call, op1_imm}
 use Rattle.casm_word.specs.Rules.{IsBitSet, Has, Meets, number, HasHighBit, IsUndefinedBy}
-use Rattle.casm_word.specs.Decoding.{field, unbiased, op1_in, res_in, pc_in, ap_in, opcode_in, kinds_of, kinds_in, broken_rule, jnz_beside_others, call_beside_ap_flag, immediate_not_next, parts_in, flags_from, flags_by, decoded}
+use Rattle.casm_word.specs.Decoding.{field, unbiased, one_of_three, one_of_two, op1_in, res_in, pc_in, ap_in, opcode_in, kinds_of, kinds_in, broken_rule, jnz_beside_others, call_beside_ap_flag, immediate_not_next, parts_in, flags_from, flags_by, decoded}
 use Rattle.casm_word.proofs.Fields.{bit_of_field, field_below}
 use Rattle.casm_word.proofs.OneFlag.{Two, Both, two_in, two_of, both_in, both_of, three_none, three_some, three_code, two_none, two_some, two_code}
 use Rattle.casm_word.proofs.BrokenRules.{defined_from, none_broken}
@@ -275,3 +275,174 @@ module _ (word : ℕ) (k : Kinds) (reads : Reads word k) where
     broken_means : BrokenMeans (broken_rule k (unbiased (field word 32 16)))
     unfolding broken_rule
     broken_means = broken_cases _ _ _ refl refl refl
+
+-- ---- the whole word
+
+-- what each answer of decoding means
+abbrev Means : ℕ → Result Flags WordFault → Type 0
+Means word (Ok f) = Word f word × ((rule : Rule) → ¬ Meets rule word)
+Means word (Err HighBit) = HasHighBit word
+Means word (Err (Undefined rule)) = IsUndefinedBy rule word
+
+parts_sum : (word : ℕ) (k : Kinds) → word < 2 ^ 63 → Reads word k → word_of (parts_in word k) ≡ word
+parts_sum word k below reads =
+    let dst = biased-unbiased (field word 0 16) (field_below word 0 16) in
+    let op0 = biased-unbiased (field word 16 16) (field_below word 16 16) in
+    let op1 = biased-unbiased (field word 32 16) (field_below word 32 16) in
+    let dst_fp = code_of_bit (field word 48 1) (field_below word 48 1) in
+    let op0_fp = code_of_bit (field word 49 1) (field_below word 49 1) in
+    omega (arith, word_sum word below, dst, op0, op1, dst_fp, op0_fp, reads.op1, reads.res, reads.pc, reads.ap, reads.opcode,
+      (bit_adds (field word 48 1 == 1) 0).flag_is, (bit_adds (field word 49 1 == 1) 1).flag_is,
+      (op1_adds k.op1).flag_is, (res_adds k.res).flag_is, (pc_adds k.pc).flag_is, (ap_adds k.ap).flag_is, (opcode_adds k.opcode).flag_is)
+
+parts_near : (word : ℕ) (k : Kinds) → AreNear (parts_in word k)
+parts_near word k =
+    record {
+      dst = unbiased_near (field word 0 16) (field_below word 0 16);
+      op0 = unbiased_near (field word 16 16) (field_below word 16 16);
+      op1 = unbiased_near (field word 32 16) (field_below word 32 16);
+    }
+
+module _ (word : ℕ) (below : word < 2 ^ 63) where
+  low : ¬ HasHighBit word
+  low bit = absurd (omega (arith, bit))
+
+  flags_mean : (k : Kinds) (reads : Reads word k) (found : Option Rule) → broken_rule k (unbiased (field word 32 16)) ≡ found → BrokenMeans word k reads found → Means word (flags_from word found k)
+  flags_mean k reads None is before =
+      (record { is = parts_sum word k below reads; near = parts_near word k; defined = defined_from (parts_in word k) is },
+       λ rule. before rule (number_bounds rule).1)
+  flags_mean k reads (Some rule) is met = record { low = low; meets = met.1; none_before = met.0 }
+
+  kinds_flags_mean : (found : Result Kinds Rule) → KindsMean word found → Means word (flags_by word found)
+  kinds_flags_mean (Err rule) met = record { low = low; meets = met.1; none_before = met.0 }
+  kinds_flags_mean (Ok k) means = flags_mean k means.1 _ refl (broken_means word k means.1 means.0)
+
+decoded_means : (word : ℕ) → word < 2 ^ 64 → Means word (decoded word)
+unfolding decoded
+decoded_means word lt =
+    elim (cases_lt word (2 ^ 63)) [
+      | inl below ↦
+          subst (λ b. Means word (cond b (Err HighBit) (flags_by word (kinds_in word)))) (sym (lt-leb (2 ^ 63) word below))
+            (kinds_flags_mean word below (kinds_in word) (kinds_mean word _ _ _ _ _ refl refl refl refl refl))
+      | inr above ↦
+          subst (λ b. Means word (cond b (Err HighBit) (flags_by word (kinds_in word)))) (sym (le-leb (2 ^ 63) word above)) (omega arith)
+    ]
+
+-- ---- the flags of a word come back
+
+kinds_some : (k : Kinds) (a : Option Op1) (b : Option ResKind) (c : Option PcKind) (d : Option ApKind) (e : Option Opcode)
+  → a ≡ Some k.op1 → b ≡ Some k.res → c ≡ Some k.pc → d ≡ Some k.ap → e ≡ Some k.opcode → kinds_of a b c d e ≡ Ok k
+unfolding kinds_of
+kinds_some k a b c d e a-is b-is c-is d-is e-is = rw (a-is, b-is, c-is, d-is, e-is) refl
+
+op1_back : (x : Op1) → one_of_three (op1_code x) op1.Op0 op1.Imm op1.Fp op1.Ap ≡ Some x
+unfolding op1_code
+op1_back op1.Op0 = refl
+op1_back op1.Imm = refl
+op1_back op1.Fp = refl
+op1_back op1.Ap = refl
+
+res_back : (x : ResKind) → one_of_two (res_code x) res.Op1 res.Add res.Mul ≡ Some x
+unfolding res_code
+res_back res.Op1 = refl
+res_back res.Add = refl
+res_back res.Mul = refl
+
+pc_back : (x : PcKind) → one_of_three (pc_code x) pc.Next pc.Abs pc.Rel pc.Jnz ≡ Some x
+unfolding pc_code
+pc_back pc.Next = refl
+pc_back pc.Abs = refl
+pc_back pc.Rel = refl
+pc_back pc.Jnz = refl
+
+ap_back : (x : ApKind) → one_of_two (ap_code x) apk.Keep apk.Add apk.Inc ≡ Some x
+unfolding ap_code
+ap_back apk.Keep = refl
+ap_back apk.Add = refl
+ap_back apk.Inc = refl
+
+opcode_back : (x : Opcode) → one_of_three (opcode_code x) opcode.Nop opcode.Call opcode.Ret opcode.AssertEq ≡ Some x
+unfolding opcode_code
+opcode_back opcode.Nop = refl
+opcode_back opcode.Call = refl
+opcode_back opcode.Ret = refl
+opcode_back opcode.AssertEq = refl
+
+-- flags by their parts, for equations part by part
+with_parts : Kinds → ℤ → ℤ → ℤ → Bool → Bool → Flags
+with_parts k off_dst off_op0 off_op1 dst_fp op0_fp =
+    record { off_dst = off_dst; off_op0 = off_op0; off_op1 = off_op1; dst_fp = dst_fp; op0_fp = op0_fp; op1 = k.op1; res = k.res; pc = k.pc; ap = k.ap; opcode = k.opcode }
+
+module _ (f : Flags) (word : ℕ) (w : Word f word) where
+  kinds_here : Kinds
+  kinds_here = record { op1 = f.op1; res = f.res; pc = f.pc; ap = f.ap; opcode = f.opcode }
+
+  fields_here : Fields word (biased f.off_dst) (biased f.off_op0) (biased f.off_op1) (bit_code f.dst_fp) (bit_code f.op0_fp) (op1_code f.op1) (res_code f.res) (pc_code f.pc) (ap_code f.ap) (opcode_code f.opcode)
+  fields_here =
+      let a = bit_adds f.dst_fp 0 in
+      let b = bit_adds f.op0_fp 1 in
+      let x = op1_adds f.op1 in
+      let r = res_adds f.res in
+      let q = pc_adds f.pc in
+      let s = ap_adds f.ap in
+      let o = opcode_adds f.opcode in
+      sum_fields word _ _ _ _ _ _ _ _ _ _
+        (biased_below f.off_dst w.near.dst) (biased_below f.off_op0 w.near.op0) (biased_below f.off_op1 w.near.op1)
+        a.below b.below x.below r.below q.below s.below o.below
+        (omega (arith, w.is, a.flag_is, b.flag_is, x.flag_is, r.flag_is, q.flag_is, s.flag_is, o.flag_is))
+
+  pub word_below : word < 2 ^ 63
+  word_below =
+      let a = bit_adds f.dst_fp 0 in
+      let b = bit_adds f.op0_fp 1 in
+      let x = op1_adds f.op1 in
+      let r = res_adds f.res in
+      let q = pc_adds f.pc in
+      let s = ap_adds f.ap in
+      let o = opcode_adds f.opcode in
+      omega (arith, w.is, biased_below f.off_dst w.near.dst, biased_below f.off_op0 w.near.op0, biased_below f.off_op1 w.near.op1,
+        a.below, b.below, x.below, r.below, q.below, s.below, o.below,
+        a.flag_is, b.flag_is, x.flag_is, r.flag_is, q.flag_is, s.flag_is, o.flag_is)
+
+  kinds_found : kinds_in word ≡ Ok kinds_here
+  unfolding kinds_here
+  kinds_found =
+      kinds_some kinds_here _ _ _ _ _
+        (ap (λ n. one_of_three n op1.Op0 op1.Imm op1.Fp op1.Ap) fields_here.op1_kind ∙ op1_back f.op1)
+        (ap (λ n. one_of_two n res.Op1 res.Add res.Mul) fields_here.res ∙ res_back f.res)
+        (ap (λ n. one_of_three n pc.Next pc.Abs pc.Rel pc.Jnz) fields_here.pc ∙ pc_back f.pc)
+        (ap (λ n. one_of_two n apk.Keep apk.Add apk.Inc) fields_here.ap ∙ ap_back f.ap)
+        (ap (λ n. one_of_three n opcode.Nop opcode.Call opcode.Ret opcode.AssertEq) fields_here.opcode ∙ opcode_back f.opcode)
+
+  parts_found : parts_in word kinds_here ≡ f
+  unfolding with_parts kinds_here
+  parts_found =
+      let dst = ap unbiased fields_here.dst ∙ unbiased-biased f.off_dst w.near.dst in
+      let op0 = ap unbiased fields_here.op0 ∙ unbiased-biased f.off_op0 w.near.op0 in
+      let op1 = ap unbiased fields_here.op1 ∙ unbiased-biased f.off_op1 w.near.op1 in
+      let dst_fp = ap (λ n. n == 1) fields_here.dst_fp ∙ bit_of_code f.dst_fp in
+      let op0_fp = ap (λ n. n == 1) fields_here.op0_fp ∙ bit_of_code f.op0_fp in
+      ap (λ d. with_parts kinds_here d (unbiased (field word 16 16)) (unbiased (field word 32 16)) (field word 48 1 == 1) (field word 49 1 == 1)) dst
+      ∙ ap (λ d. with_parts kinds_here f.off_dst d (unbiased (field word 32 16)) (field word 48 1 == 1) (field word 49 1 == 1)) op0
+      ∙ ap (λ d. with_parts kinds_here f.off_dst f.off_op0 d (field word 48 1 == 1) (field word 49 1 == 1)) op1
+      ∙ ap (λ b. with_parts kinds_here f.off_dst f.off_op0 f.off_op1 b (field word 49 1 == 1)) dst_fp
+      ∙ ap (λ b. with_parts kinds_here f.off_dst f.off_op0 f.off_op1 f.dst_fp b) op0_fp
+
+  none_found : broken_rule kinds_here (unbiased (field word 32 16)) ≡ None
+  unfolding kinds_here
+  none_found =
+      ap (λ off. broken_rule kinds_here off) (ap unbiased fields_here.op1 ∙ unbiased-biased f.off_op1 w.near.op1) ∙ none_broken f w.defined
+
+  pub word_decodes : decoded word ≡ Ok f
+  unfolding decoded
+  word_decodes =
+      ap (λ b. cond b (Err HighBit) (flags_by word (kinds_in word))) (lt-leb (2 ^ 63) word word_below)
+      ∙ ap (flags_by word) kinds_found
+      ∙ ap (λ found. flags_from word found kinds_here) none_found
+      ∙ ap Ok parts_found
+
+-- ---- what decoding gives
+
+-- decoding gives flags only where the word is below 2 ^ 63
+pub decodes_word : (f : Flags) (word : ℕ) → decoded word ≡ Ok f → Word f word
+decodes_word f word is = ?
