@@ -46,7 +46,7 @@ rule_at-number JnzBesideOthers = refl
 rule_at-number CallBesideApFlag = refl
 rule_at-number ImmediateNotNext = refl
 
-same_rule : (a b : Rule) → number a ≡ number b → a ≡ b
+pub same_rule : (a b : Rule) → number a ≡ number b → a ≡ b
 same_rule a b same = sym (rule_at-number a) ∙ ap rule_at same ∙ rule_at-number b
 
 number_bounds : (rule : Rule) → (1 ≤ number rule) × (number rule < 9)
@@ -279,7 +279,7 @@ module _ (word : ℕ) (k : Kinds) (reads : Reads word k) where
 -- ---- the whole word
 
 -- what each answer of decoding means
-abbrev Means : ℕ → Result Flags WordFault → Type 0
+abbrev pub Means : ℕ → Result Flags WordFault → Type 0
 Means word (Ok f) = Word f word × ((rule : Rule) → ¬ Meets rule word)
 Means word (Err HighBit) = HasHighBit word
 Means word (Err (Undefined rule)) = IsUndefinedBy rule word
@@ -317,7 +317,7 @@ module _ (word : ℕ) (below : word < 2 ^ 63) where
   kinds_flags_mean (Err rule) met = record { low = low; meets = met.1; none_before = met.0 }
   kinds_flags_mean (Ok k) means = flags_mean k means.1 _ refl (broken_means word k means.1 means.0)
 
-decoded_means : (word : ℕ) → word < 2 ^ 64 → Means word (decoded word)
+pub decoded_means : (word : ℕ) → word < 2 ^ 64 → Means word (decoded word)
 unfolding decoded
 decoded_means word lt =
     elim (cases_lt word (2 ^ 63)) [
@@ -440,9 +440,3 @@ module _ (f : Flags) (word : ℕ) (w : Word f word) where
       ∙ ap (flags_by word) kinds_found
       ∙ ap (λ found. flags_from word found kinds_here) none_found
       ∙ ap Ok parts_found
-
--- ---- what decoding gives
-
--- decoding gives flags only where the word is below 2 ^ 63
-pub decodes_word : (f : Flags) (word : ℕ) → decoded word ≡ Ok f → Word f word
-decodes_word f word is = ?

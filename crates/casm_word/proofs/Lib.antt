@@ -1,5 +1,6 @@
-pub mod BrokenRules
-pub mod DecodingLaws
-pub mod Fields
-pub mod OneFlag
-pub mod Sums
+mod BrokenRules
+mod DecodingLaws
+mod Fields
+mod OneFlag
+mod Sums
+pub mod WordLaws

@@ -133,9 +133,21 @@ impl Kinds {
 ///
 /// # Errors
 ///
-/// `HighBit` where bit 63 is set, and else the first rule that the word meets.
-#[tactic(auto, unfolding(crate::specs::Decoding::decoded))]
+/// `HighBit` if bit 63 is set, and else the first rule that the word meets.
 pub fn decode(word: u64) -> Result<Flags, WordFault>
+    ensures ok { (f : Flags) → (result ≡ Ok f) ↔ Word f word }
+    ensures high_bit { (result ≡ Err WordFault.HighBit) ↔ HasHighBit word }
+    ensures undefined { (rule : Rule) → (result ≡ Err (WordFault.Undefined rule)) ↔ IsUndefinedBy rule word }
+
+    // The same as a function of the word, for the laws of steps.
+    ensures value { result ≡ decoded word }
+{
+    cut(word)
+}
+
+/// The parts that are cut out of a word's bits.
+#[tactic(auto, unfolding(crate::specs::Decoding::decoded))]
+fn cut(word: u64) -> Result<Flags, WordFault>
     ensures { result ≡ decoded word }
 {
     if word >= 1 << 63 {
