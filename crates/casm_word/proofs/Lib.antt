@@ -1,5 +1,7 @@
 mod BrokenRules
 mod DecodingLaws
+pub mod EncodingLaws
+pub mod ExpressionLaws
 mod Fields
 mod OneFlag
 mod Sums

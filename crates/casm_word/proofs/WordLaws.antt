@@ -1,5 +1,5 @@
 -- The theory of instruction words: what decoding gives, that a word has one list of flags, and which words have none.
-use Rattle.std.proofs.Common.{◌≡◌, ◌≢◌, ◌⊎◌, ◌↔◌, ℕ, ◌+◌, ◌/◌, ◌%◌, ◌^◌, ◌<◌, ◌≤◌, cond, Result, Ok, Err, refl, sym, ap, subst, ◌∙◌, inl, inr, arith}
+use Rattle.std.proofs.Common.{◌≡◌, ◌↔◌, ℕ, ◌^◌, ◌<◌, ◌≤◌, cond, Ok, Err, refl, sym, ap, subst, ◌∙◌, inl, inr, arith}
 use Rattle.std.proofs.lemmas.Bool.{cases_lt, le-leb}
 use Rattle.casm_word.specs.declared.flags.Flags.{Flags}
 use Rattle.casm_word.specs.declared.rules.Rule.{Rule}
@@ -16,12 +16,13 @@ decoded_high word above = ap (λ b. cond b (Err HighBit) (flags_by word (kinds_i
 
 -- decoding gives flags if and only if the word stands for them
 pub decodes : (f : Flags) (word : ℕ) → (decoded word ≡ Ok f) ↔ Word f word
-decodes f word =
-    (λ is. elim (cases_lt word (2 ^ 63)) [
-       | inl below ↦ (subst (Means word) is (decoded_means word (omega arith))).0
-       | inr above ↦ let high = decoded_high word above in cc
-     ],
-     word_decodes f word)
+decodes f word = (
+  λ is. elim (cases_lt word (2 ^ 63)) [
+    | inl below ↦ (subst (Means word) is (decoded_means word (omega arith))).0
+    | inr above ↦ let high = decoded_high word above in cc
+  ],
+  word_decodes f word,
+)
 
 -- a word stands for one list of flags
 pub one_flags : (f g : Flags) (word : ℕ) → Word f word → Word g word → f ≡ g
@@ -60,13 +61,14 @@ one_rule a b word by_a by_b =
     ]
 
 pub decoded_undefined : (rule : Rule) (word : ℕ) → word < 2 ^ 64 → (decoded word ≡ Err (Undefined rule)) ↔ IsUndefinedBy rule word
-decoded_undefined rule word lt =
-    (λ is. subst (Means word) is (decoded_means word lt),
-     λ u. elim (decoded word) as (λ r. Means word r → r ≡ Err (Undefined rule)) [
-       | Ok f ↦ λ means. absurd (means.1 rule u.meets)
-       | Err HighBit ↦ λ high. absurd (u.low high)
-       | Err (Undefined first) ↦ λ first_is. ap (λ r. Err (Undefined r)) (one_rule first rule word first_is u)
-     ] (decoded_means word lt))
+decoded_undefined rule word lt = (
+  λ is. subst (Means word) is (decoded_means word lt),
+  λ u. elim (decoded word) as (λ r. Means word r → r ≡ Err (Undefined rule)) [
+    | Ok f ↦ λ means. absurd (means.1 rule u.meets)
+    | Err HighBit ↦ λ high. absurd (u.low high)
+    | Err (Undefined first) ↦ λ first_is. ap (λ r. Err (Undefined r)) (one_rule first rule word first_is u)
+  ] (decoded_means word lt),
+)
 
 -- no flags: the word does not decode
 pub undecoded : (word : ℕ) → ((f : Flags) → ¬ Word f word) → (fault : WordFault) × (decoded word ≡ Err fault)

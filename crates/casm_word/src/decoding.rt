@@ -70,8 +70,19 @@ impl Kinds {
     fn of(word: u64) -> Result<Kinds, Rule>
         ensures { result ≡ kinds_in word }
     {
-        let op1 = one_of_three(field(word, bits::FLAGS + bits::OP1_IMM, 3), Op1::Op0, Op1::Imm, Op1::Fp, Op1::Ap);
-        let res = one_of_two(field(word, bits::FLAGS + bits::RES_ADD, 2), ResKind::Op1, ResKind::Add, ResKind::Mul);
+        let op1 = one_of_three(
+            field(word, bits::FLAGS + bits::OP1_IMM, 3),
+            Op1::Op0,
+            Op1::Imm,
+            Op1::Fp,
+            Op1::Ap,
+        );
+        let res = one_of_two(
+            field(word, bits::FLAGS + bits::RES_ADD, 2),
+            ResKind::Op1,
+            ResKind::Add,
+            ResKind::Mul,
+        );
         let pc = one_of_three(
             field(word, bits::FLAGS + bits::PC_JUMP_ABS, 3),
             PcKind::Next,
@@ -79,7 +90,12 @@ impl Kinds {
             PcKind::Rel,
             PcKind::Jnz,
         );
-        let ap = one_of_two(field(word, bits::FLAGS + bits::AP_ADD, 2), ApKind::Keep, ApKind::Add, ApKind::Inc);
+        let ap = one_of_two(
+            field(word, bits::FLAGS + bits::AP_ADD, 2),
+            ApKind::Keep,
+            ApKind::Add,
+            ApKind::Inc,
+        );
         let opcode = one_of_three(
             field(word, bits::FLAGS + bits::OPCODE_CALL, 3),
             Opcode::Nop,

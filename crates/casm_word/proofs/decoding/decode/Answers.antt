@@ -1,4 +1,4 @@
-use Rattle.std.proofs.Common.{subst, sym, arith}
+use Rattle.std.proofs.Common.{arith}
 use Rattle.casm_word.proofs.WordLaws.{decodes, decoded_high_bit, decoded_undefined}
 use Rattle.casm_word.proofs.decoding.decode.Goals as goal
 
