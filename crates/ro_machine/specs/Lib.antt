@@ -1,4 +1,3 @@
 pub mod Cells
 pub mod Step
 pub mod Stepping
-pub mod Word

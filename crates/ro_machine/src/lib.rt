@@ -3,10 +3,10 @@
 //! The trace check and, later, the runner stand on it.
 #![tactic(auto)]
 
-pub mod machine;
-pub mod memory;
-pub mod word;
+mod laws;
+mod machine;
+mod memory;
 
+pub use laws::{one_step, one_stop, step_by_flags, steps_or_stops, undefined_word_stops};
 pub use machine::{State, StepFault, step};
 pub use memory::{InsertFault, Memory};
-pub use word::{ApKind, Flags, Op1, Opcode, PcKind, ResKind, decode, word_parts, word_sums};
