@@ -1,15 +1,18 @@
 -- The step as a function gives the next state exactly where the machine steps, and a fault exactly where it stops.
 use Rattle.std.proofs.Common.{◌≡◌, ◌≢◌, ◌⊎◌, ◌↔◌, ℕ, Option, Some, None, Result, Ok, Err, IfErr, refl, sym, ap, subst, ◌∙◌, inl, inr, arith}
 use Rattle.std.proofs.lemmas.Bool.Decides.{nat_tests}
-use Rattle.ro_machine.specs.declared.word.Opcode.{Opcode}
-use Rattle.ro_machine.specs.declared.word.Opcode.TheVariants as opcode
-use Rattle.ro_machine.specs.declared.word.Flags.{Flags}
+use Rattle.casm_word.specs.declared.flags.Opcode.{Opcode}
+use Rattle.casm_word.specs.declared.flags.Opcode.TheVariants as opcode
+use Rattle.casm_word.specs.declared.flags.Flags.{Flags}
 use Rattle.ro_machine.specs.declared.machine.State.{State}
 use Rattle.ro_machine.specs.declared.machine.StepFault.{StepFault}
 use Rattle.ro_machine.specs.declared.machine.StepFault.TheVariants.{CellMissing, BadWord, AssertFails, CallFails}
-use Rattle.ro_machine.specs.Word.{Word, flags_of}
-use Rattle.ro_machine.specs.Step.{Step, Stops, Operands, Asserts, Fetches, AssertDiffers, CallDiffers, MissesOperand, op0_address, op1_address, dst_address, res_of, behind, next_state}
-use Rattle.ro_machine.specs.Stepping.{◌>>=◌, word_or, listed, decoded, equal_or, asserted, step_of}
+use Rattle.casm_word.specs.declared.rules.WordFault.{WordFault}
+use Rattle.casm_word.specs.Word.{Word}
+use Rattle.casm_word.specs.Decoding as decoding
+use Rattle.casm_word.proofs.WordLaws.{decodes, undecoded}
+use Rattle.ro_machine.specs.Step.{Step, StepBy, Stops, Operands, Asserts, Fetches, AssertDiffers, CallDiffers, MissesOperand, op0_address, op1_address, dst_address, res_of, behind, next_state}
+use Rattle.ro_machine.specs.Stepping.{◌>>=◌, word_or, flags_or, listed, decoded, equal_or, asserted, step_of}
 
 module _ {A B : Type 0} where
   bind_ok : (r : Result A StepFault) (f : A → Result B StepFault) (y : B) → (r >>= f) ≡ Ok y → (x : A) × (r ≡ Ok x) × (f x ≡ Ok y)
@@ -42,6 +45,27 @@ module _ {A : Type 0} where
   word_or_none : (o : Option A) (fault : StepFault) → o ≡ None → word_or o fault ≡ Err fault
   word_or_none o fault is = ap (λ o. word_or o fault) is
 
+flags_or_err : (r : Result Flags WordFault) (pc : ℕ) (fault : StepFault) → flags_or r pc ≡ Err fault → fault ≡ BadWord pc
+flags_or_err (Ok flags) pc fault is = cc
+flags_or_err (Err e) pc fault is = cc
+
+-- decoding passes if and only if the word stands for flags
+decoded_ok : (pc word : ℕ) (f : Flags) → decoded pc word ≡ Ok f → Word f word
+decoded_ok pc word f is =
+    elim (decoding.decoded word) as (λ r. decoding.decoded word ≡ r → flags_or r pc ≡ Ok f → Word f word) [
+      | Ok g ↦ λ found same. let here : g ≡ f = cc in subst (λ f. Word f word) here ((decodes g word).0 found)
+      | Err fault ↦ λ found differs. cc
+    ] refl is
+
+decoded_word : (pc word : ℕ) (f : Flags) → Word f word → decoded pc word ≡ Ok f
+decoded_word pc word f w = ap (λ r. flags_or r pc) ((decodes f word).1 w)
+
+decoded_err : (pc word : ℕ) (fault : StepFault) → decoded pc word ≡ Err fault → ((f : Flags) → ¬ Word f word) × (fault ≡ BadWord pc)
+decoded_err pc word fault is = (λ f w. let ok = decoded_word pc word f w in cc, flags_or_err (decoding.decoded word) pc fault is)
+
+decoded_none : (pc word : ℕ) → ((f : Flags) → ¬ Word f word) → decoded pc word ≡ Err (BadWord pc)
+decoded_none pc word none = ap (λ r. flags_or r pc) (undecoded word none).1
+
 equal_or_ok : (left right : ℕ) (fault : StepFault) → equal_or left right fault ≡ Ok tt → left ≡ right
 equal_or_ok left right fault is = grind (arith, nat_tests)
 
@@ -54,8 +78,12 @@ equal_or_same left right fault same = grind (arith, nat_tests)
 equal_or_differs : (left right : ℕ) (fault : StepFault) → left ≢ right → equal_or left right fault ≡ Err fault
 equal_or_differs left right fault differs = grind (arith, nat_tests)
 
--- the asserts pass exactly where they hold
-asserted_ok : (op : Opcode) (f : Flags) (s : State) (op0 op1 dst : ℕ) → asserted op f s op0 op1 dst ≡ Ok tt → Asserts op f s op0 op1 dst
+-- what the opcode asserts of op0, op1 and dst
+abbrev asserted_by : Opcode → Flags → State → ℕ → ℕ → ℕ → Result (Unit {0}) StepFault
+asserted_by op f s op0 op1 dst = asserted op f s op0 dst (res_of f.res op0 op1)
+
+-- the asserts pass if and only if they hold
+asserted_ok : (op : Opcode) (f : Flags) (s : State) (op0 op1 dst : ℕ) → asserted_by op f s op0 op1 dst ≡ Ok tt → Asserts op f s op0 op1 dst
 asserted_ok opcode.Nop f s op0 op1 dst is = tt
 asserted_ok opcode.Call f s op0 op1 dst is =
     let first = bind_ok (equal_or dst s.fp (CallFails dst s.fp)) (λ _. equal_or op0 (behind f s) (CallFails op0 (behind f s))) tt is in
@@ -63,7 +91,7 @@ asserted_ok opcode.Call f s op0 op1 dst is =
 asserted_ok opcode.Ret f s op0 op1 dst is = tt
 asserted_ok opcode.AssertEq f s op0 op1 dst is = equal_or_ok dst (res_of f.res op0 op1) (AssertFails dst (res_of f.res op0 op1)) is
 
-asserted_holds : (op : Opcode) (f : Flags) (s : State) (op0 op1 dst : ℕ) → Asserts op f s op0 op1 dst → asserted op f s op0 op1 dst ≡ Ok tt
+asserted_holds : (op : Opcode) (f : Flags) (s : State) (op0 op1 dst : ℕ) → Asserts op f s op0 op1 dst → asserted_by op f s op0 op1 dst ≡ Ok tt
 asserted_holds opcode.Nop f s op0 op1 dst holds = refl
 asserted_holds opcode.Call f s op0 op1 dst holds =
     after_ok (equal_or dst s.fp (CallFails dst s.fp)) (λ _. equal_or op0 (behind f s) (CallFails op0 (behind f s))) tt (equal_or_same dst s.fp (CallFails dst s.fp) holds.0)
@@ -78,7 +106,7 @@ FailsBy op f s op0 op1 dst (BadWord at) = ⊥
 FailsBy op f s op0 op1 dst (AssertFails left right) = AssertDiffers op f s op0 op1 dst left right
 FailsBy op f s op0 op1 dst (CallFails left right) = CallDiffers op f s op0 dst left right
 
-asserted_err : (op : Opcode) (f : Flags) (s : State) (op0 op1 dst : ℕ) (fault : StepFault) → asserted op f s op0 op1 dst ≡ Err fault → FailsBy op f s op0 op1 dst fault
+asserted_err : (op : Opcode) (f : Flags) (s : State) (op0 op1 dst : ℕ) (fault : StepFault) → asserted_by op f s op0 op1 dst ≡ Err fault → FailsBy op f s op0 op1 dst fault
 asserted_err opcode.Nop f s op0 op1 dst fault is = cc
 asserted_err opcode.Call f s op0 op1 dst fault is =
     elim (bind_err (equal_or dst s.fp (CallFails dst s.fp)) (λ _. equal_or op0 (behind f s) (CallFails op0 (behind f s))) fault is) [
@@ -92,7 +120,7 @@ asserted_err opcode.AssertEq f s op0 op1 dst fault is =
     let differs = equal_or_err dst (res_of f.res op0 op1) (AssertFails dst (res_of f.res op0 op1)) fault is in
     subst (FailsBy opcode.AssertEq f s op0 op1 dst) (sym differs.1) (refl, refl, refl, differs.0)
 
-asserted_fails : (op : Opcode) (f : Flags) (s : State) (op0 op1 dst : ℕ) (fault : StepFault) → FailsBy op f s op0 op1 dst fault → asserted op f s op0 op1 dst ≡ Err fault
+asserted_fails : (op : Opcode) (f : Flags) (s : State) (op0 op1 dst : ℕ) (fault : StepFault) → FailsBy op f s op0 op1 dst fault → asserted_by op f s op0 op1 dst ≡ Err fault
 asserted_fails op f s op0 op1 dst (CellMissing at) fails = absurd fails
 asserted_fails op f s op0 op1 dst (BadWord at) fails = absurd fails
 asserted_fails op f s op0 op1 dst (AssertFails left right) fails =
@@ -110,7 +138,7 @@ asserted_fails op f s op0 op1 dst (CallFails left right) fails =
 module _ (cells : ℕ → Option ℕ) (s : State) where
   -- what is left of a step at each part that passes
   abbrev after_dst : Flags → ℕ → ℕ → ℕ → Result State StepFault
-  after_dst f op0 op1 dst = asserted f.opcode f s op0 op1 dst >>= λ holds. Ok (next_state f s op0 op1 dst)
+  after_dst f op0 op1 dst = asserted_by f.opcode f s op0 op1 dst >>= λ holds. Ok (next_state f s op0 op1 dst)
 
   abbrev after_op1 : Flags → ℕ → ℕ → Result State StepFault
   after_op1 f op0 op1 = listed cells (dst_address f s) >>= after_dst f op0 op1
@@ -135,12 +163,12 @@ module _ (cells : ℕ → Option ℕ) (s : State) where
       let c = bind_ok (listed cells (op0_address b.0 s)) (after_op0 b.0) t b.2 in
       let d = bind_ok (listed cells (op1_address b.0 s c.0)) (after_op1 b.0 c.0) t c.2 in
       let e = bind_ok (listed cells (dst_address b.0 s)) (after_dst b.0 c.0 d.0) t d.2 in
-      let g = bind_ok (asserted b.0.opcode b.0 s c.0 d.0 e.0) (λ holds. Ok (next_state b.0 s c.0 d.0 e.0)) t e.2 in
+      let g = bind_ok (asserted_by b.0.opcode b.0 s c.0 d.0 e.0) (λ holds. Ok (next_state b.0 s c.0 d.0 e.0)) t e.2 in
       record {
         word = a.0;
         word_is = word_or_ok (cells s.pc) (CellMissing s.pc) a.0 a.1;
         flags = b.0;
-        decodes = word_or_ok (flags_of a.0) (BadWord s.pc) b.0 b.1;
+        decodes = decoded_ok s.pc a.0 b.0 b.1;
         op0 = c.0;
         op1 = d.0;
         dst = e.0;
@@ -160,7 +188,7 @@ module _ (cells : ℕ → Option ℕ) (s : State) where
 
     module _ (f : Flags) (decodes : Word f word) where
       up_to_flags : step_of cells s ≡ after_flags f
-      up_to_flags = up_to_word ∙ after_ok (decoded s.pc word) after_flags f (word_or_some (flags_of word) (BadWord s.pc) f decodes)
+      up_to_flags = up_to_word ∙ after_ok (decoded s.pc word) after_flags f (decoded_word s.pc word f decodes)
 
       module _ (op0 : ℕ) (op0_is : cells (op0_address f s) ≡ Some op0) where
         up_to_op0 : step_of cells s ≡ after_op0 f op0
@@ -180,7 +208,7 @@ module _ (cells : ℕ → Option ℕ) (s : State) where
   pub from_step : (t : State) → Step cells s t → step_of cells s ≡ Ok t
   from_step t step =
       up_to_operands step.flags (step.word, step.word_is, step.decodes) step.op0 step.op1 step.dst step.reads
-      ∙ after_ok (asserted step.flags.opcode step.flags s step.op0 step.op1 step.dst) (λ holds. Ok (next_state step.flags s step.op0 step.op1 step.dst)) tt (asserted_holds step.flags.opcode step.flags s step.op0 step.op1 step.dst step.asserts)
+      ∙ after_ok (asserted_by step.flags.opcode step.flags s step.op0 step.op1 step.dst) (λ holds. Ok (next_state step.flags s step.op0 step.op1 step.dst)) tt (asserted_holds step.flags.opcode step.flags s step.op0 step.op1 step.dst step.asserts)
       ∙ ap Ok (sym step.next)
 
   fails_stop : (f : Flags) → Fetches cells s f → (op0 op1 dst : ℕ) → Operands cells f s op0 op1 dst → (fault : StepFault) → FailsBy f.opcode f s op0 op1 dst fault → Stops cells s fault
@@ -211,7 +239,7 @@ module _ (cells : ℕ → Option ℕ) (s : State) where
                     | inr e ↦
                         let dst = e.0 in
                         let dst_is = word_or_ok (cells (dst_address f s)) (CellMissing (dst_address f s)) dst e.1 in
-                        elim (bind_err (asserted f.opcode f s op0 op1 dst) (λ holds. Ok (next_state f s op0 op1 dst)) fault e.2) [
+                        elim (bind_err (asserted_by f.opcode f s op0 op1 dst) (λ holds. Ok (next_state f s op0 op1 dst)) fault e.2) [
                           | inl g ↦ fails_stop f fetched op0 op1 dst (record { op0_is = op0_is; op1_is = op1_is; dst_is = dst_is }) fault (asserted_err f.opcode f s op0 op1 dst fault g)
                           | inr g ↦ let passes : ◌≡◌ {A = Result State StepFault} (Ok (next_state f s op0 op1 dst)) (Err fault) = g.2 in cc
                         ]
@@ -227,9 +255,9 @@ module _ (cells : ℕ → Option ℕ) (s : State) where
         | inr a ↦
             let word_is = word_or_ok (cells s.pc) (CellMissing s.pc) a.0 a.1 in
             elim (bind_err (decoded s.pc a.0) after_flags fault a.2) [
-              | inl b ↦ let m = word_or_err (flags_of a.0) (BadWord s.pc) fault b in
+              | inl b ↦ let m = decoded_err s.pc a.0 fault b in
                   subst (Stops cells s) (sym m.1) (refl, (a.0, word_is, m.0))
-              | inr b ↦ stops_after_flags b.0 (a.0, word_is, word_or_ok (flags_of a.0) (BadWord s.pc) b.0 b.1) fault b.2
+              | inr b ↦ stops_after_flags b.0 (a.0, word_is, decoded_ok s.pc a.0 b.0 b.1) fault b.2
             ]
       ]
 
@@ -251,14 +279,14 @@ module _ (cells : ℕ → Option ℕ) (s : State) where
       ]
   from_stops (BadWord at) stops =
       let word = stops.1.0 in
-      let undecoded : decoded s.pc word ≡ Err (BadWord at) = subst (λ pc. decoded pc word ≡ Err (BadWord at)) stops.0 (word_or_none (flags_of word) (BadWord at) stops.1.2) in
+      let undecoded : decoded s.pc word ≡ Err (BadWord at) = subst (λ pc. decoded pc word ≡ Err (BadWord at)) stops.0 (decoded_none at word stops.1.2) in
       up_to_word word (subst (λ pc. cells pc ≡ Some word) stops.0 stops.1.1) ∙ after_err (decoded s.pc word) after_flags (BadWord at) undecoded
   from_stops (AssertFails left right) (f, op0, op1, dst, fetched, reads, fails) =
       up_to_operands f fetched op0 op1 dst reads
-      ∙ after_err (asserted f.opcode f s op0 op1 dst) (λ holds. Ok (next_state f s op0 op1 dst)) (AssertFails left right) (asserted_fails f.opcode f s op0 op1 dst (AssertFails left right) fails)
+      ∙ after_err (asserted_by f.opcode f s op0 op1 dst) (λ holds. Ok (next_state f s op0 op1 dst)) (AssertFails left right) (asserted_fails f.opcode f s op0 op1 dst (AssertFails left right) fails)
   from_stops (CallFails left right) (f, op0, op1, dst, fetched, reads, fails) =
       up_to_operands f fetched op0 op1 dst reads
-      ∙ after_err (asserted f.opcode f s op0 op1 dst) (λ holds. Ok (next_state f s op0 op1 dst)) (CallFails left right) (asserted_fails f.opcode f s op0 op1 dst (CallFails left right) fails)
+      ∙ after_err (asserted_by f.opcode f s op0 op1 dst) (λ holds. Ok (next_state f s op0 op1 dst)) (CallFails left right) (asserted_fails f.opcode f s op0 op1 dst (CallFails left right) fails)
 
   -- there is at most one next state
   pub step_functional : (t u : State) → Step cells s t → Step cells s u → t ≡ u
@@ -298,3 +326,27 @@ module _ (cells : ℕ → Option ℕ) (s : State) where
   pub fault_is_stops : (r : Result State StepFault) → ((to : State) → (r ≡ Ok to) ↔ Step cells s to) → IfErr r (Stops cells s) → (fault : StepFault) → (r ≡ Err fault) ↔ Stops cells s fault
   fault_is_stops (Ok to) steps stops fault = (λ is. cc, λ stopped. absurd (stops_no_step to fault stopped ((steps to).0 refl)))
   fault_is_stops (Err first) steps stops fault = (λ is. let same : first ≡ fault = cc in subst (Stops cells s) same stops, λ stopped. ap Err (stops_functional first fault stops stopped))
+
+  -- a step is the flags at pc and their step
+  pub step_parts : (t : State) → Step cells s t ↔ ((f : Flags) × Fetches cells s f × StepBy cells f s t)
+  step_parts t = (
+    λ step. (step.flags, (step.word, step.word_is, step.decodes), record { op0 = step.op0; op1 = step.op1; dst = step.dst; reads = step.reads; asserts = step.asserts; next = step.next }),
+    λ (f, fetched, by). record {
+      word = fetched.0;
+      word_is = fetched.1;
+      flags = f;
+      decodes = fetched.2;
+      op0 = by.op0;
+      op1 = by.op1;
+      dst = by.dst;
+      reads = by.reads;
+      asserts = by.asserts;
+      next = by.next;
+    },
+  )
+
+  -- a word that stands for no flags has no step
+  pub undefined_no_step : (word : ℕ) (t : State) → cells s.pc ≡ Some word → ((f : Flags) → ¬ Word f word) → ¬ Step cells s t
+  undefined_no_step word t is none step =
+      let same : step.word ≡ word = let w = step.word_is in cc in
+      none step.flags (subst (Word step.flags) same step.decodes)

@@ -3,4 +3,3 @@ pub mod Memory
 pub mod Step
 pub mod Stepping
 pub mod Stretches
-pub mod Word

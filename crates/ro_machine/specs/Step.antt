@@ -1,21 +1,21 @@
 -- A step of the machine, from one state to the next over cells that are fixed. All sums are in the field.
 use Rattle.std.specs.Prelude.{◌≡◌, ◌≢◌, ◌⊎◌, ℕ, suc, ℤ, pos, negsuc, Option, Some, None, if◌then◌else◌, ◌==◌}
 use Rattle.felt64.specs.Field.{sum, difference, product}
-use Rattle.ro_machine.specs.declared.word.Op1.{Op1}
-use Rattle.ro_machine.specs.declared.word.Op1.TheVariants as op1
-use Rattle.ro_machine.specs.declared.word.ResKind.{ResKind}
-use Rattle.ro_machine.specs.declared.word.ResKind.TheVariants as res
-use Rattle.ro_machine.specs.declared.word.PcKind.{PcKind}
-use Rattle.ro_machine.specs.declared.word.PcKind.TheVariants as pc
-use Rattle.ro_machine.specs.declared.word.ApKind.{ApKind}
-use Rattle.ro_machine.specs.declared.word.ApKind.TheVariants as ap
-use Rattle.ro_machine.specs.declared.word.Opcode.{Opcode}
-use Rattle.ro_machine.specs.declared.word.Opcode.TheVariants as opcode
-use Rattle.ro_machine.specs.declared.word.Flags.{Flags}
+use Rattle.casm_word.specs.declared.flags.Op1.{Op1}
+use Rattle.casm_word.specs.declared.flags.Op1.TheVariants as op1
+use Rattle.casm_word.specs.declared.flags.ResKind.{ResKind}
+use Rattle.casm_word.specs.declared.flags.ResKind.TheVariants as res
+use Rattle.casm_word.specs.declared.flags.PcKind.{PcKind}
+use Rattle.casm_word.specs.declared.flags.PcKind.TheVariants as pc
+use Rattle.casm_word.specs.declared.flags.ApKind.{ApKind}
+use Rattle.casm_word.specs.declared.flags.ApKind.TheVariants as ap
+use Rattle.casm_word.specs.declared.flags.Opcode.{Opcode}
+use Rattle.casm_word.specs.declared.flags.Opcode.TheVariants as opcode
+use Rattle.casm_word.specs.declared.flags.Flags.{Flags}
 use Rattle.ro_machine.specs.declared.machine.State.{State}
 use Rattle.ro_machine.specs.declared.machine.StepFault.{StepFault}
 use Rattle.ro_machine.specs.declared.machine.StepFault.TheVariants.{CellMissing, BadWord, AssertFails, CallFails}
-use Rattle.ro_machine.specs.Word.{Word, flags_of}
+use Rattle.casm_word.specs.Word.{Word}
 
 -- the address that lies an offset from a base
 abbrev pub moved : ℕ → ℤ → ℕ
@@ -113,6 +113,15 @@ pub record Step (cells : ℕ → Option ℕ) (s t : State) : Type 0 where
 abbrev pub Fetches : (ℕ → Option ℕ) → State → Flags → Type 0
 Fetches cells s f = (word : ℕ) × (cells s.pc ≡ Some word) × Word f word
 
+-- The step of a word that stands for these flags. A step is the flags at pc and this.
+pub record StepBy (cells : ℕ → Option ℕ) (f : Flags) (s t : State) : Type 0 where
+  pub op0 : ℕ
+  pub op1 : ℕ
+  pub dst : ℕ
+  pub reads : Operands cells f s op0 op1 dst
+  pub asserts : Asserts f.opcode f s op0 op1 dst
+  pub next : t ≡ next_state f s op0 op1 dst
+
 -- no word is listed at this address
 abbrev pub IsUnlisted : (ℕ → Option ℕ) → ℕ → Type 0
 IsUnlisted cells at = cells at ≡ None
@@ -139,7 +148,7 @@ CallDiffers op f s op0 dst left right =
 -- this is the first part that fails of a step from s
 abbrev pub Stops : (ℕ → Option ℕ) → State → StepFault → Type 0
 Stops cells s (CellMissing at) = ((at ≡ s.pc) × IsUnlisted cells at) ⊎ ((f : Flags) × Fetches cells s f × MissesOperand cells f s at)
-Stops cells s (BadWord at) = (at ≡ s.pc) × ((word : ℕ) × (cells at ≡ Some word) × (flags_of word ≡ None))
+Stops cells s (BadWord at) = (at ≡ s.pc) × ((word : ℕ) × (cells at ≡ Some word) × ((f : Flags) → ¬ Word f word))
 Stops cells s (AssertFails left right) =
     (f : Flags) × (op0 : ℕ) × (op1 : ℕ) × (dst : ℕ)
     × Fetches cells s f × Operands cells f s op0 op1 dst × AssertDiffers f.opcode f s op0 op1 dst left right

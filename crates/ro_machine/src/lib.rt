@@ -3,13 +3,13 @@
 //! The trace check and, later, the runner stand on it.
 #![tactic(auto)]
 
+mod laws;
 mod listed_cells;
-pub mod machine;
+mod machine;
 mod memory;
 mod segment;
-pub mod word;
 
+pub use laws::{one_step, one_stop, step_by_flags, steps_or_stops, undefined_word_stops};
 pub use listed_cells::ListedCells;
 pub use machine::{State, StepFault, step};
 pub use memory::{InsertFault, Memory};
-pub use word::{ApKind, Flags, Op1, Opcode, PcKind, ResKind, decode, word_parts, word_sums};

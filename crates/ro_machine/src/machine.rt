@@ -2,13 +2,13 @@
 //! A memory and a state come in; the next state goes out, or the first part of the step that fails.
 //! The trace check calls it for each step of a run. All sums of addresses and words are in the field.
 
-ghost use Rattle.std.specs.Prelude.{◌≡◌, ◌↔◌, Ok, IfErr};
+ghost use Rattle.std.specs.Prelude.{◌≡◌, ◌↔◌, Ok, IfErr, if◌then◌else◌};
 ghost use Rattle.std.specs.FinMap.{get};
-ghost use Rattle.ro_machine.specs.Step.{Step, Stops, moved, op0_address, op1_address, dst_address, size_of, behind, res_of, pc_after, ap_after, fp_after, next_state};
-ghost use Rattle.ro_machine.specs.Stepping.{step_of, listed, equal_or, asserted};
+ghost use Rattle.ro_machine.specs.Step.{Step, Stops, moved, op0_address, op1_address, dst_address, behind, res_of, pc_after, ap_after, fp_after};
+ghost use Rattle.ro_machine.specs.Stepping.{step_of, listed, decoded, equal_or, asserted, state_after};
 
 use crate::memory::Memory;
-use crate::word::{ApKind, Flags, Op1, Opcode, PcKind, ResKind, decode};
+use casm_word::{ApKind, Flags, Op1, Opcode, PcKind, ResKind, decode};
 use felt64::Felt;
 use thiserror::Error;
 
@@ -59,12 +59,14 @@ fn stepped(memory: &Memory, from: State) -> Result<State, StepFault>
     ensures { result ≡ step_of (get memory.now) from }
 {
     let word = listed(memory, from.pc)?;
-    let flags = decode(word).ok_or(StepFault::BadWord(from.pc))?;
-    let op0 = listed(memory, flags.op0_address(&from))?;
-    let op1 = listed(memory, flags.op1_address(&from, op0))?;
-    let dst = listed(memory, flags.dst_address(&from))?;
-    flags.assert(&from, op0, op1, dst)?;
-    Ok(flags.next(&from, op0, op1, dst))
+    let flags = decoded(from.pc, word)?;
+    let at = Instruction { flags, from };
+    let op0 = listed(memory, at.op0_address())?;
+    let op1 = listed(memory, at.op1_address(op0))?;
+    let dst = listed(memory, at.dst_address())?;
+    let res = at.res(op0, op1);
+    at.assert(op0, dst, res)?;
+    Ok(at.next(op1, dst, res))
 }
 
 /// The word of a cell.
@@ -72,6 +74,16 @@ fn listed(memory: &Memory, at: Felt) -> Result<Felt, StepFault>
     ensures { result ≡ listed (get memory.now) at }
 {
     memory.get(at).ok_or(StepFault::CellMissing(at))
+}
+
+/// The flags of the word at `pc`.
+fn decoded(pc: Felt, word: Felt) -> Result<Flags, StepFault>
+    ensures { result ≡ decoded pc word }
+{
+    match decode(word.value()) {
+        Ok(flags) => Ok(flags),
+        Err(_) => Err(StepFault::BadWord(pc)),
+    }
 }
 
 /// The address that lies `offset` cells from `base`.
@@ -86,56 +98,69 @@ fn moved(base: Felt, offset: i16) -> Felt
     }
 }
 
-impl Flags {
-    /// The address of dst.
-    fn dst_address(&self, s: &State) -> Felt
-        ensures { result ≡ dst_address self.now s.now }
+/// The instruction at a state.
+#[derive(Clone, Copy)]
+struct Instruction {
+    flags: Flags,
+    from: State,
+}
+
+impl Instruction {
+    /// The register from which a cell is counted.
+    fn register(&self, is_fp: bool) -> Felt
+        ensures { result ≡ (if is_fp then self.now.from.fp else self.now.from.ap) }
     {
-        moved(if self.dst_fp { s.fp } else { s.ap }, self.off_dst)
+        if is_fp { self.from.fp } else { self.from.ap }
+    }
+
+    /// The address of dst.
+    fn dst_address(&self) -> Felt
+        ensures { result ≡ dst_address self.now.flags self.now.from }
+    {
+        let flags = &self.flags;
+        moved(self.register(flags.dst_fp), flags.off_dst)
     }
 
     /// The address of op0.
-    fn op0_address(&self, s: &State) -> Felt
-        ensures { result ≡ op0_address self.now s.now }
+    fn op0_address(&self) -> Felt
+        ensures { result ≡ op0_address self.now.flags self.now.from }
     {
-        moved(if self.op0_fp { s.fp } else { s.ap }, self.off_op0)
+        let flags = &self.flags;
+        moved(self.register(flags.op0_fp), flags.off_op0)
     }
 
     /// The address of op1, which may need the word of op0.
-    fn op1_address(&self, s: &State, op0: Felt) -> Felt
-        ensures { result ≡ op1_address self.now s.now op0 }
+    fn op1_address(&self, op0: Felt) -> Felt
+        ensures { result ≡ op1_address self.now.flags self.now.from op0 }
     {
-        let base = match self.op1 {
+        let flags = &self.flags;
+        let base = match flags.op1 {
             Op1::Op0 => op0,
-            Op1::Imm => s.pc,
-            Op1::Fp => s.fp,
-            Op1::Ap => s.ap,
+            Op1::Imm => self.from.pc,
+            Op1::Fp => self.from.fp,
+            Op1::Ap => self.from.ap,
         };
-        moved(base, self.off_op1)
+        moved(base, flags.off_op1)
     }
 
-    /// How many cells the instruction takes.
-    fn size(&self) -> Felt
-        ensures { result ≡ size_of self.now.op1 }
+    /// The address of the next instruction in the code.
+    fn next_instruction(&self) -> Felt
+        ensures { result ≡ behind self.now.flags self.now.from }
     {
-        match self.op1 {
+        let flags = &self.flags;
+        let size = match flags.op1 {
             Op1::Imm => Felt::from(2),
             Op1::Op0 | Op1::Fp | Op1::Ap => Felt::from(1),
-        }
-    }
-
-    /// The place behind the instruction.
-    fn behind(&self, s: &State) -> Felt
-        ensures { result ≡ behind self.now s.now }
-    {
-        s.pc.add(self.size())
+        };
+        self.from.pc.add(size)
     }
 
     /// What the operands give.
     fn res(&self, op0: Felt, op1: Felt) -> Felt
-        ensures { result ≡ res_of self.now.res op0 op1 }
+        ensures { result ≡ res_of self.now.flags.res op0 op1 }
     {
-        match self.res {
+        let flags = &self.flags;
+        match flags.res {
             ResKind::Op1 => op1,
             ResKind::Add => op0.add(op1),
             ResKind::Mul => op0.mul(op1),
@@ -143,64 +168,66 @@ impl Flags {
     }
 
     /// What the opcode asserts.
-    fn assert(&self, s: &State, op0: Felt, op1: Felt, dst: Felt) -> Result<(), StepFault>
-        ensures { result ≡ asserted self.now.opcode self.now s.now op0 op1 dst }
+    fn assert(&self, op0: Felt, dst: Felt, res: Felt) -> Result<(), StepFault>
+        ensures { result ≡ asserted self.now.flags.opcode self.now.flags self.now.from op0 dst res }
     {
-        match self.opcode {
+        let flags = &self.flags;
+        match flags.opcode {
             Opcode::Nop | Opcode::Ret => Ok(()),
             Opcode::Call => {
-                equal(dst, s.fp, StepFault::CallFails(dst, s.fp))?;
-                let behind = self.behind(s);
-                equal(op0, behind, StepFault::CallFails(op0, behind))
+                let fp = self.from.fp;
+                equal(dst, fp, StepFault::CallFails(dst, fp))?;
+                let return_pc = self.next_instruction();
+                equal(op0, return_pc, StepFault::CallFails(op0, return_pc))
             }
-            Opcode::AssertEq => {
-                let res = self.res(op0, op1);
-                equal(dst, res, StepFault::AssertFails(dst, res))
-            }
+            Opcode::AssertEq => equal(dst, res, StepFault::AssertFails(dst, res)),
         }
     }
 
-    /// The state behind the step.
-    fn next(&self, s: &State, op0: Felt, op1: Felt, dst: Felt) -> State
-        ensures { result ≡ next_state self.now s.now op0 op1 dst }
+    /// The state after the step.
+    fn next(&self, op1: Felt, dst: Felt, res: Felt) -> State
+        ensures { result ≡ state_after self.now.flags self.now.from op1 dst res }
     {
-        let res = self.res(op0, op1);
         State {
-            pc: self.next_pc(s, op1, dst, res),
-            ap: self.next_ap(s, res),
-            fp: self.next_fp(s, dst),
+            pc: self.next_pc(op1, dst, res),
+            ap: self.next_ap(res),
+            fp: self.next_fp(dst),
         }
     }
 
-    fn next_pc(&self, s: &State, op1: Felt, dst: Felt, res: Felt) -> Felt
-        ensures { result ≡ pc_after self.now.pc (behind self.now s.now) s.now.pc op1 dst res }
+    fn next_pc(&self, op1: Felt, dst: Felt, res: Felt) -> Felt
+        ensures { result ≡ pc_after self.now.flags.pc (behind self.now.flags self.now.from) self.now.from.pc op1 dst res }
     {
-        match self.pc {
-            PcKind::Next => self.behind(s),
+        let flags = &self.flags;
+        match flags.pc {
+            PcKind::Next => self.next_instruction(),
             PcKind::Abs => res,
-            PcKind::Rel => s.pc.add(res),
-            PcKind::Jnz if dst == Felt::from(0) => self.behind(s),
-            PcKind::Jnz => s.pc.add(op1),
+            PcKind::Rel => self.from.pc.add(res),
+            PcKind::Jnz if dst == Felt::from(0) => self.next_instruction(),
+            PcKind::Jnz => self.from.pc.add(op1),
         }
     }
 
-    fn next_ap(&self, s: &State, res: Felt) -> Felt
-        ensures { result ≡ ap_after self.now.opcode self.now.ap s.now.ap res }
+    fn next_ap(&self, res: Felt) -> Felt
+        ensures { result ≡ ap_after self.now.flags.opcode self.now.flags.ap self.now.from.ap res }
     {
-        match (self.opcode, self.ap) {
-            (Opcode::Call, _) => s.ap.add(Felt::from(2)),
-            (_, ApKind::Keep) => s.ap,
-            (_, ApKind::Add) => s.ap.add(res),
-            (_, ApKind::Inc) => s.ap.add(Felt::from(1)),
+        let flags = &self.flags;
+        let ap = self.from.ap;
+        match (flags.opcode, flags.ap) {
+            (Opcode::Call, _) => ap.add(Felt::from(2)),
+            (_, ApKind::Keep) => ap,
+            (_, ApKind::Add) => ap.add(res),
+            (_, ApKind::Inc) => ap.add(Felt::from(1)),
         }
     }
 
-    fn next_fp(&self, s: &State, dst: Felt) -> Felt
-        ensures { result ≡ fp_after self.now.opcode s.now dst }
+    fn next_fp(&self, dst: Felt) -> Felt
+        ensures { result ≡ fp_after self.now.flags.opcode self.now.from dst }
     {
-        match self.opcode {
-            Opcode::Nop | Opcode::AssertEq => s.fp,
-            Opcode::Call => s.ap.add(Felt::from(2)),
+        let flags = &self.flags;
+        match flags.opcode {
+            Opcode::Nop | Opcode::AssertEq => self.from.fp,
+            Opcode::Call => self.from.ap.add(Felt::from(2)),
             Opcode::Ret => dst,
         }
     }
@@ -288,7 +315,13 @@ mod tests {
             (4294967297, None, call, missing(4294967297)),
             (
                 2,
-                Some(0x010780017fff7fff),
+                Some(0x3000800080008000),
+                back,
+                StepFault::BadWord(felt(2)),
+            ),
+            (
+                2,
+                Some(0x810780017fff7fff),
                 back,
                 StepFault::BadWord(felt(2)),
             ),

@@ -1,11 +1,21 @@
 -- Whatever an accepted run lists, its three steps give the argument plus the constant.
-use Rattle.std.proofs.Common.{◌≡◌, ◌≢◌, ℕ, ◌+◌, ◌-◌, ◌<◌, List, [], ◌∷◌, length, Option, Some, slice_get, get_or, false, refl, sym, ap, subst, ◌∙◌, inl, inr, zero, suc, arith}
+use Rattle.std.proofs.Common.{◌≡◌, ◌≢◌, ℕ, ◌+◌, ◌-◌, ◌<◌, List, [], ◌∷◌, length, Option, Some, slice_get, get_or, true, false, pos, refl, sym, ap, subst, ◌∙◌, inl, inr, zero, suc, arith}
 use Rattle.felt64.specs.Field.{modulus, sum, difference}
 use Rattle.ro_machine.specs.declared.machine.State.{State}
-use Rattle.ro_machine.specs.declared.word.Flags.{Flags}
-use Rattle.ro_machine.specs.Word.{flags_of, call_rel, add_immediate, ret}
-use Rattle.ro_machine.specs.Step.{Step, Operands, Asserts, next_state}
+use Rattle.casm_word.specs.declared.flags.Flags.{Flags}
+use Rattle.casm_word.specs.declared.instr.Operand.TheVariants as operand
+use Rattle.casm_word.specs.declared.instr.Res.TheVariants as res
+use Rattle.casm_word.specs.declared.instr.Instr.{Instr}
+use Rattle.casm_word.specs.declared.instr.Instr.TheVariants as instr
+use Rattle.casm_word.specs.Bounds.{IsInstrNear}
+use Rattle.casm_word.specs.Encoding.{flags_of, ap_cell, fp_cell}
+use Rattle.casm_word.specs.Offset.{minus}
+use Rattle.casm_word.specs.Word.{Word, word_of}
+use Rattle.casm_word.proofs.EncodingLaws.{instr_word}
+use Rattle.casm_word.proofs.WordLaws.{one_flags}
+use Rattle.ro_machine.specs.Step.{Step, StepBy}
 use Rattle.std.proofs.lemmas.Bool.{cases_lt}
+use Rattle.std.proofs.lemmas.Int.{ints}
 use Rattle.std.proofs.lemmas.Option.{get_or_from_slice_get}
 use Rattle.felt64.proofs.FieldLaws.{sum_below}
 use Rattle.sierra_tool.specs.Accepted.{Accepts, EndsOnce}
@@ -16,27 +26,15 @@ use Rattle.sierra_tool.specs.declared.program.Program.{Program}
 use Rattle.sierra_tool.specs.declared.input.Input.{Input}
 use Rattle.sierra_tool.specs.declared.verdict.Verdict.{Verdict}
 
--- a step of an instruction with these flags
-pub record StepBy (cells : ℕ → Option ℕ) (f : Flags) (s t : State) : Type 0 where
-  pub op0 : ℕ
-  pub op1 : ℕ
-  pub dst : ℕ
-  pub reads : Operands cells f s op0 op1 dst
-  pub asserts : Asserts f.opcode f s op0 op1 dst
-  pub next : t ≡ next_state f s op0 op1 dst
-
 -- one cell has one word
 one_word : (cells : ℕ → Option ℕ) (at v w : ℕ) → cells at ≡ Some v → cells at ≡ Some w → v ≡ w
 one_word cells at v w first second = cc
 
-one_flags : (word : ℕ) (f g : Flags) → flags_of word ≡ Some f → flags_of word ≡ Some g → f ≡ g
-one_flags word f g first second = cc
-
--- the step goes by the flags of the word at pc
-step_by : (cells : ℕ → Option ℕ) (s t : State) (word : ℕ) (f : Flags) → Step cells s t → cells s.pc ≡ Some word → flags_of word ≡ Some f → StepBy cells f s t
-step_by cells s t word f step at decodes =
-    let same_word : step.word ≡ word = one_word cells s.pc step.word word step.word_is at in
-    let same : step.flags ≡ f = one_flags word step.flags f (subst (λ w. flags_of w ≡ Some step.flags) same_word step.decodes) decodes in
+-- the step goes by the flags of the instruction at pc
+step_by : (cells : ℕ → Option ℕ) (s t : State) (i : Instr) → IsInstrNear i → Step cells s t → cells s.pc ≡ Some (word_of (flags_of i)) → StepBy cells (flags_of i) s t
+step_by cells s t i near step at =
+    let same_word : step.word ≡ word_of (flags_of i) = one_word cells s.pc step.word (word_of (flags_of i)) step.word_is at in
+    let same : step.flags ≡ flags_of i = one_flags step.flags (flags_of i) (word_of (flags_of i)) (subst (Word step.flags) same_word step.decodes) (instr_word i near) in
     subst (λ g. StepBy cells g s t) same (record { op0 = step.op0; op1 = step.op1; dst = step.dst; reads = step.reads; asserts = step.asserts; next = step.next })
 
 -- the call to main writes the frame and the return pc, and goes to cell 4
@@ -47,7 +45,7 @@ record Calls (cells : ℕ → Option ℕ) (base : ℕ) (t : State) : Type 0 wher
 
 calls : (cells : ℕ → Option ℕ) (base : ℕ) (t : State) → Step cells (record { pc = 0; ap = base; fp = base }) t → cells 0 ≡ Some 0x1104800180018000 → cells 1 ≡ Some 4 → Calls cells base t
 calls cells base t step word distance =
-    let by = step_by cells (record { pc = 0; ap = base; fp = base }) t _ call_rel step word refl in
+    let by = step_by cells (record { pc = 0; ap = base; fp = base }) t (instr.Call true (operand.Imm 4)) tt step word in
     let by_four : by.op1 ≡ 4 = one_word cells 1 by.op1 4 by.reads.op1_is distance in
     record {
       frame = by.reads.dst_is ∙ ap Some by.asserts.0;
@@ -64,7 +62,7 @@ record Adds (cells : ℕ → Option ℕ) (frame constant : ℕ) (t : State) : Ty
 
 adds : (cells : ℕ → Option ℕ) (frame constant : ℕ) (t : State) → Step cells (record { pc = 4; ap = frame; fp = frame }) t → cells 4 ≡ Some 0x482680017ffd8000 → cells 5 ≡ Some constant → Adds cells frame constant t
 adds cells frame constant t step word immediate =
-    let by = step_by cells (record { pc = 4; ap = frame; fp = frame }) t _ add_immediate step word refl in
+    let by = step_by cells (record { pc = 4; ap = frame; fp = frame }) t (instr.AssertEq (ap_cell (pos 0)) (res.Add (fp_cell (minus 3)) (operand.Imm constant)) true) (omega (arith, ints), (omega (arith, ints), tt)) step word in
     let by_constant : by.op1 ≡ constant = one_word cells 5 by.op1 constant by.reads.op1_is immediate in
     record {
       argument = by.op0;
@@ -80,7 +78,7 @@ record Returns (cells : ℕ → Option ℕ) (top frame : ℕ) (t : State) : Type
 
 returns : (cells : ℕ → Option ℕ) (top frame : ℕ) (t : State) → Step cells (record { pc = 6; ap = top; fp = frame }) t → cells 6 ≡ Some 0x208b7fff7fff7ffe → Returns cells top frame t
 returns cells top frame t step word =
-    let by = step_by cells (record { pc = 6; ap = top; fp = frame }) t _ ret step word refl in
+    let by = step_by cells (record { pc = 6; ap = top; fp = frame }) t instr.Ret tt step word in
     record {
       pc_is = by.reads.op1_is ∙ ap Some (sym (ap (λ s. s.pc) by.next));
       ap_is = ap (λ s. s.ap) by.next;

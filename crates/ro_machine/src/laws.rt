@@ -1,0 +1,36 @@
+//! Laws of steps. A law is a function without code, whose contract says what holds.
+
+ghost use Rattle.std.specs.Prelude.{◌≡◌, ◌≢◌, ◌⊎◌, ◌↔◌, ℕ, Option, Some};
+ghost use Rattle.casm_word.specs.declared.flags.Flags.{Flags};
+ghost use Rattle.casm_word.specs.Word.{Word};
+ghost use Rattle.ro_machine.specs.declared.machine.State.{State};
+ghost use Rattle.ro_machine.specs.declared.machine.StepFault.{StepFault};
+ghost use Rattle.ro_machine.specs.declared.machine.StepFault.TheVariants.{BadWord};
+ghost use Rattle.ro_machine.specs.Step.{Step, StepBy, Fetches, Stops};
+
+/// A step is the flags of the word at pc and what these flags do.
+pub fn step_by_flags()
+    ensures { (cells : ℕ → Option ℕ) (s t : State) → Step cells s t ↔ ((f : Flags) × Fetches cells s f × StepBy cells f s t) }
+{}
+
+/// A state has at most one next state.
+pub fn one_step()
+    ensures { (cells : ℕ → Option ℕ) (s t u : State) → Step cells s t → Step cells s u → t ≡ u }
+{}
+
+/// A state stops for at most one fault, and a state that stops has no step.
+pub fn one_stop()
+    ensures faults { (cells : ℕ → Option ℕ) (s : State) (a b : StepFault) → Stops cells s a → Stops cells s b → a ≡ b }
+    ensures no_step { (cells : ℕ → Option ℕ) (s t : State) (fault : StepFault) → Stops cells s fault → ¬ Step cells s t }
+{}
+
+/// A state has a step or stops.
+pub fn steps_or_stops()
+    ensures { (cells : ℕ → Option ℕ) (s : State) → ((t : State) × Step cells s t) ⊎ ((fault : StepFault) × Stops cells s fault) }
+{}
+
+/// A state whose word stands for no flags has no step, and stops for its word.
+pub fn undefined_word_stops()
+    ensures no_step { (cells : ℕ → Option ℕ) (s t : State) (word : ℕ) → cells s.pc ≡ Some word → ((f : Flags) → ¬ Word f word) → ¬ Step cells s t }
+    ensures stops { (cells : ℕ → Option ℕ) (s : State) (word : ℕ) → cells s.pc ≡ Some word → ((f : Flags) → ¬ Word f word) → Stops cells s (BadWord s.pc) }
+{}
