@@ -1,3 +1,4 @@
+pub mod ExtendLaws
 pub mod FirstFrom
 pub mod Lookups
 pub mod NewCells
