@@ -3,14 +3,14 @@
 //! The trace check and, later, the runner stand on it.
 #![tactic(auto)]
 
-mod laws;
+mod extends;
 mod listed_cells;
 pub mod machine;
 mod memory;
 mod segment;
 pub mod word;
 
-pub use laws::{insert_extends, step_extends};
+pub use extends::{insert_extends, step_extends};
 pub use listed_cells::ListedCells;
 pub use machine::{State, StepFault, step};
 pub use memory::{InsertFault, Memory};

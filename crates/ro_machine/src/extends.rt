@@ -1,4 +1,5 @@
-//! Laws of memories and steps, without code. The runner and whoever follows a run while cells are added read them.
+//! A memory that grows keeps its words and its steps: laws without code.
+//! The runner reads them, which adds cells between steps.
 
 ghost use Rattle.std.specs.Prelude.{◌≡◌, ◌⊎◌, ℕ, Option, Some, None};
 ghost use Rattle.std.specs.FinMap.{get, insert};
