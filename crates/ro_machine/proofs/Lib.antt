@@ -1,3 +1,4 @@
+pub mod EntryLaws
 pub mod ExtendLaws
 pub mod FirstFrom
 pub mod Lookups
