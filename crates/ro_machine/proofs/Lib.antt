@@ -1,3 +1,5 @@
+pub mod EntryLaws
+pub mod ExtendLaws
 pub mod FirstFrom
 pub mod Lookups
 pub mod NewCells

@@ -1,4 +1,5 @@
 pub mod Cells
+pub mod Extends
 pub mod Memory
 pub mod Step
 pub mod Stepping

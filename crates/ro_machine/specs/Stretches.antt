@@ -45,7 +45,7 @@ pub record IsKept (ss : List Stretch) (count : ℕ) : Type 0 where
   pub apart : AreApart 0 ss
   pub counted : count ≡ length (cells_of ss)
 
--- so many stretches start at or below the address
+-- at is how many of the stretches start at or below the address
 pub record IsPlace (ss : List Stretch) (addr at : ℕ) : Type 0 where
   pub in_range : at ≤ length ss
   pub before : (j : ℕ) (s : Stretch) → j < at → slice_get ss j ≡ Some s → s.start ≤ addr

@@ -1,11 +1,14 @@
-//! Laws of steps. A law is a function without code, whose contract says what holds.
+//! Laws of steps, and of memories that grow. A law is a function without code, whose contract says what holds.
 
-ghost use Rattle.std.specs.Prelude.{◌≡◌, ◌≢◌, ◌⊎◌, ◌↔◌, ℕ, Option, Some};
+ghost use Rattle.std.specs.Prelude.{◌≡◌, ◌≢◌, ◌⊎◌, ◌↔◌, ℕ, Option, Some, None};
+ghost use Rattle.std.specs.FinMap.{get, insert};
 ghost use Rattle.casm_word.specs.declared.flags.Flags.{Flags};
 ghost use Rattle.casm_word.specs.Word.{Word};
 ghost use Rattle.ro_machine.specs.declared.machine.State.{State};
 ghost use Rattle.ro_machine.specs.declared.machine.StepFault.{StepFault};
 ghost use Rattle.ro_machine.specs.declared.machine.StepFault.TheVariants.{BadWord};
+ghost use Rattle.ro_machine.specs.Cells.{Cells};
+ghost use Rattle.ro_machine.specs.Extends.{Extends};
 ghost use Rattle.ro_machine.specs.Step.{Step, StepBy, Fetches, Stops};
 
 /// A step is the flags of the word at pc and what these flags do.
@@ -33,4 +36,14 @@ pub fn steps_or_stops()
 pub fn undefined_word_stops()
     ensures no_step { (cells : ℕ → Option ℕ) (s t : State) (word : ℕ) → cells s.pc ≡ Some word → ((f : Flags) → ¬ Word f word) → ¬ Step cells s t }
     ensures stops { (cells : ℕ → Option ℕ) (s : State) (word : ℕ) → cells s.pc ≡ Some word → ((f : Flags) → ¬ Word f word) → Stops cells s (BadWord s.pc) }
+{}
+
+/// A cell that isn't listed, or is listed with this word, is added without a change to any other.
+pub fn insert_extends()
+    ensures { (m : Cells) (addr word : ℕ) → (get m addr ≡ None) ⊎ (get m addr ≡ Some word) → Extends (get m) (get (insert m addr word)) }
+{}
+
+/// A step stays a step as cells are added.
+pub fn step_extends()
+    ensures { (m more : ℕ → Option ℕ) (s t : State) → Extends m more → Step m s t → Step more s t }
 {}

@@ -9,7 +9,10 @@ mod machine;
 mod memory;
 mod segment;
 
-pub use laws::{one_step, one_stop, step_by_flags, steps_or_stops, undefined_word_stops};
+pub use laws::{
+    insert_extends, one_step, one_stop, step_by_flags, step_extends, steps_or_stops,
+    undefined_word_stops,
+};
 pub use listed_cells::ListedCells;
 pub use machine::{State, StepFault, step};
 pub use memory::{InsertFault, Memory};
