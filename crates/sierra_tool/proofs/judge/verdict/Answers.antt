@@ -3,7 +3,7 @@ use Rattle.std.specs.FinMap.{get}
 use Rattle.felt64.specs.Field.{sum}
 use Rattle.sierra_tool.specs.declared.verdict.Verdict.{Verdict}
 use Rattle.sierra_tool.proofs.Soundness.{cell_at_end, shows_it, soundness}
-use Rattle.sierra_tool.proofs.check.verdict.Goals as goal
+use Rattle.sierra_tool.proofs.judge.verdict.Goals as goal
 
 -- one value is in an option
 one_value : (o : Option ℕ) (m n : ℕ) → o ≡ Some m → o ≡ Some n → m ≡ n
