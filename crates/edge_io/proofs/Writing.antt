@@ -33,20 +33,21 @@ take_wider n xs ys = elim (cases_lt n (length xs)) [
 
 -- no write writes nothing
 pub writes_nothing : (a : SinkView) → WritesAll a a []
-writes_nothing a = record { appended = Appends-nothing a.written; faults = omega arith }
+writes_nothing a = record { appended = Appends-nothing a.written; kept = omega arith }
 
 -- what was written in part is a part of more
 pub writes_part : (a b : SinkView) (xs ys : List ℕ) → WritesPart a b xs → WritesPart a b (xs ++ ys)
 writes_part a b xs ys part =
     let wider = take_wider part.prefix xs ys in
-    record { prefix = wider.0; appended = subst (Appends a.written b.written) (sym wider.1) part.appended; faults = part.faults }
+    record { prefix = wider.0; appended = subst (Appends a.written b.written) (sym wider.1) part.appended; kept = part.kept; rose = part.rose }
 
 -- all of the first bytes, and then the second ones, up to a fault
 pub writes_then : (a b c : SinkView) (xs ys : List ℕ) (result : Result ⊤ Failed) → WritesAll a b xs → Writes b c ys result → Writes a c (xs ++ ys) result
 writes_then a b c xs ys (Ok done) first second =
-    record { appended = Appends-both a.written b.written c.written xs ys first.appended second.appended; faults = omega (arith, first.faults, second.faults) }
+    record { appended = Appends-both a.written b.written c.written xs ys first.appended second.appended; kept = omega (arith, first.kept, second.kept) }
 writes_then a b c xs ys (Err fault) first second = record {
   prefix = length xs + second.prefix;
   appended = subst (Appends a.written c.written) (sym (take-append-add xs ys second.prefix)) (Appends-both a.written b.written c.written xs (take second.prefix ys) first.appended second.appended);
-  faults = omega (arith, first.faults, second.faults);
+  kept = omega (arith, first.kept, second.kept);
+  rose = omega (arith, first.kept, second.rose);
 }

@@ -18,13 +18,14 @@ Appends (Some before) (Some now) bytes = now ≡ before ++ bytes
 -- all of these bytes were written, and no count falls
 pub record WritesAll (before now : SinkView) (bytes : List ℕ) : Type 0 where
   pub appended : Appends before.written now.written bytes
-  pub faults : before.faults ≤ now.faults
+  pub kept : before.faults ≤ now.faults
 
--- a prefix of these bytes was written, and the count of faults rose
+-- a prefix of these bytes was written, and the count of faults rose, where it isn't at its greatest value
 pub record WritesPart (before now : SinkView) (bytes : List ℕ) : Type 0 where
   pub prefix : ℕ
   pub appended : Appends before.written now.written (take prefix bytes)
-  pub faults : Rose before.faults now.faults
+  pub kept : before.faults ≤ now.faults
+  pub rose : Rose before.faults now.faults
 
 -- the outcome of writing these bytes
 abbrev pub Writes : SinkView → SinkView → List ℕ → Result ⊤ Failed → Type 0

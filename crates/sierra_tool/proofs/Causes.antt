@@ -56,30 +56,30 @@ Stage {X} source wrong right next given answer =
     IsRefused source wrong given answer ⊎ ((x : X) × Holds source given (λ bytes. right bytes x) × next x answer)
 
 module _ {X : Type 0} (source : Source) (wrong : List ℕ → Answer → Type 0) (right : List ℕ → X → Type 0) (next : X → Answer → Type 0)
-  (one_wrong : (bytes : List ℕ) (a b : Answer) → wrong bytes a → wrong bytes b → a ≡ b)
-  (either : (bytes : List ℕ) (a : Answer) (x : X) → wrong bytes a → right bytes x → ⊥)
-  (one_right : (bytes : List ℕ) (x y : X) → right bytes x → right bytes y → x ≡ y)
-  (once : (x : X) (a b : Answer) → next x a → next x b → a ≡ b)
-  (given : Reading)
+    (one_wrong : (bytes : List ℕ) (a b : Answer) → wrong bytes a → wrong bytes b → a ≡ b)
+    (either : (bytes : List ℕ) (a : Answer) (x : X) → wrong bytes a → right bytes x → ⊥)
+    (one_right : (bytes : List ℕ) (x y : X) → right bytes x → right bytes y → x ≡ y)
+    (once : (x : X) (a b : Answer) → next x a → next x b → a ≡ b)
+    (given : Reading)
   where
-  refused_once : (a b : Answer) → IsRefused source wrong given a → IsRefused source wrong given b → a ≡ b
-  refused_once a b (inl p) (inl q) = unfit_once source given a b p q
-  refused_once a b (inl p) (inr q) = absurd (unfit_never source given a q.0 p q.1 q.2)
-  refused_once a b (inr p) (inl q) = absurd (unfit_never source given b p.0 q p.1 p.2)
-  refused_once a b (inr p) (inr q) = one_wrong q.0 a b (subst (λ bytes. wrong bytes a) (one_found given p.0 q.0 p.1 q.1) p.3) q.3
+    refused_once : (a b : Answer) → IsRefused source wrong given a → IsRefused source wrong given b → a ≡ b
+    refused_once a b (inl p) (inl q) = unfit_once source given a b p q
+    refused_once a b (inl p) (inr q) = absurd (unfit_never source given a q.0 p q.1 q.2)
+    refused_once a b (inr p) (inl q) = absurd (unfit_never source given b p.0 q p.1 p.2)
+    refused_once a b (inr p) (inr q) = one_wrong q.0 a b (subst (λ bytes. wrong bytes a) (one_found given p.0 q.0 p.1 q.1) p.3) q.3
 
-  never_both : (a : Answer) (x : X) → IsRefused source wrong given a → Holds source given (λ bytes. right bytes x) → ⊥
-  never_both a x (inl p) q = unfit_never source given a q.0 p q.1 q.2
-  never_both a x (inr p) q = either q.0 a x (subst (λ bytes. wrong bytes a) (one_found given p.0 q.0 p.1 q.1) p.3) q.3
+    never_both : (a : Answer) (x : X) → IsRefused source wrong given a → Holds source given (λ bytes. right bytes x) → ⊥
+    never_both a x (inl p) q = unfit_never source given a q.0 p q.1 q.2
+    never_both a x (inr p) q = either q.0 a x (subst (λ bytes. wrong bytes a) (one_found given p.0 q.0 p.1 q.1) p.3) q.3
 
-  one_held : (x y : X) → Holds source given (λ bytes. right bytes x) → Holds source given (λ bytes. right bytes y) → x ≡ y
-  one_held x y p q = one_right q.0 x y (subst (λ bytes. right bytes x) (one_found given p.0 q.0 p.1 q.1) p.3) q.3
+    one_held : (x y : X) → Holds source given (λ bytes. right bytes x) → Holds source given (λ bytes. right bytes y) → x ≡ y
+    one_held x y p q = one_right q.0 x y (subst (λ bytes. right bytes x) (one_found given p.0 q.0 p.1 q.1) p.3) q.3
 
-  stage_once : (a b : Answer) → Stage source wrong right next given a → Stage source wrong right next given b → a ≡ b
-  stage_once a b (inl p) (inl q) = refused_once a b p q
-  stage_once a b (inl p) (inr q) = absurd (never_both a q.0 p q.1)
-  stage_once a b (inr p) (inl q) = absurd (never_both b p.0 q p.1)
-  stage_once a b (inr p) (inr q) = once p.0 a b p.2 (subst (λ x. next x b) (one_held q.0 p.0 q.1 p.1) q.2)
+    stage_once : (a b : Answer) → Stage source wrong right next given a → Stage source wrong right next given b → a ≡ b
+    stage_once a b (inl p) (inl q) = refused_once a b p q
+    stage_once a b (inl p) (inr q) = absurd (never_both a q.0 p q.1)
+    stage_once a b (inr p) (inl q) = absurd (never_both b p.0 q p.1)
+    stage_once a b (inr p) (inr q) = once p.0 a b p.2 (subst (λ x. next x b) (one_held q.0 p.0 q.1 p.1) q.2)
 
 -- ---- The stages of a check
 
@@ -169,53 +169,60 @@ one_answer (Some command) readings a b p q = ordered_once readings a b (ordered 
 -- ---- There is an answer
 
 module _ (check : Check) (readings : Readings)
-  (small : (source : Source) (bytes : List ℕ) → readings source ≡ found bytes → All (λ byte. byte < 256) bytes)
-  (none : (answer : Answer) → Cause (Some (commands.Check check)) readings answer → ⊥)
+    (small : (source : Source) (bytes : List ℕ) → readings source ≡ found bytes → All (λ byte. byte < 256) bytes)
+    (none : (answer : Answer) → Cause (Some (commands.Check check)) readings answer → ⊥)
   where
-  -- a source that the command comes to gave bytes, and not too many, ..
-  held : (source : Source) → ComesTo (commands.Check check) readings source → ((bytes : List ℕ) → readings source ≡ found bytes → length bytes ≤ limit source → ⊥) → ⊥
-  held source comes more = by_reading (readings source) refl
-    where
-      by_reading : (given : Reading) → readings source ≡ given → ⊥
-      by_reading absent is = none (answers.Missing source) (comes, is)
-      by_reading unread is = none (answers.ReadFault source) (comes, is)
-      by_reading (found bytes) is = elim (cases_lt (limit source) (length bytes)) [
-        | inl beyond ↦ none (answers.TooLong source) (comes, (bytes, is, beyond))
-        | inr within ↦ more bytes is (omega arith)
-      ]
+    -- a source that the command comes to gave bytes, and not too many, ..
+    held : (source : Source) → ComesTo (commands.Check check) readings source → ((bytes : List ℕ) → readings source ≡ found bytes → length bytes ≤ limit source → ⊥) → ⊥
+    held source comes more = by_reading (readings source) refl
+      where
+        by_reading : (given : Reading) → readings source ≡ given → ⊥
+        by_reading absent is = none (answers.Missing source) (comes, is)
+        by_reading unread is = none (answers.ReadFault source) (comes, is)
+        by_reading (found bytes) is = elim (cases_lt (limit source) (length bytes)) [
+          | inl beyond ↦ none (answers.TooLong source) (comes, (bytes, is, beyond))
+          | inr within ↦ more bytes is (omega arith)
+        ]
 
-  -- .. a run is rejected or judged, ..
-  no_run : (program : Program) (input : Input) (run : Run) → CanRun readings program input → HasRun readings run → ⊥
-  no_run program input run can has =
-      none answers.RunRejected (program, input, run, can, has, λ accepted.
-      let verdict = some_verdict program input run can.gas accepted in
-      none (answers.Judged verdict.0) (program, input, run, can, has, accepted, verdict.1))
+    -- .. a run is rejected or judged, ..
+    no_run : (program : Program) (input : Input) (run : Run) → CanRun readings program input → HasRun readings run → ⊥
+    no_run program input run can has =
+        none answers.RunRejected (
+          program,
+          input,
+          run,
+          can,
+          has,
+          λ accepted.
+              let verdict = some_verdict program input run can.gas accepted in
+              none (answers.Judged verdict.0) (program, input, run, can, has, accepted, verdict.1),
+        )
 
-  -- .. bytes are refused or a run's, ..
-  no_bytes : (program : Program) (input : Input) → CanRun readings program input → ⊥
-  no_bytes program input can = held sources.Run (refl, program, input, can) (λ bytes is within. by_run bytes is within (reading bytes) refl)
-    where
-      by_run : (bytes : List ℕ) → readings sources.Run ≡ found bytes → length bytes ≤ limit sources.Run → (read : Result Run FileRefusal) → reading bytes ≡ read → ⊥
-      by_run bytes is within (Ok run) read = no_run program input run can (bytes, is, within, (reads_exactly bytes run (small sources.Run bytes is)).0 read)
-      by_run bytes is within (Err refusal) read =
-          none (answers.RunRefused refusal)
-          ((refl, program, input, can), (bytes, is, within, ((λ run spelled. absurd (cc (read, (reads_exactly bytes run (small sources.Run bytes is)).1 spelled))), read)))
+    -- .. bytes are refused or a run's, ..
+    no_bytes : (program : Program) (input : Input) → CanRun readings program input → ⊥
+    no_bytes program input can = held sources.Run (refl, program, input, can) (λ bytes is within. by_run bytes is within (reading bytes) refl)
+      where
+        by_run : (bytes : List ℕ) → readings sources.Run ≡ found bytes → length bytes ≤ limit sources.Run → (read : Result Run FileRefusal) → reading bytes ≡ read → ⊥
+        by_run bytes is within (Ok run) read = no_run program input run can (bytes, is, within, (reads_exactly bytes run (small sources.Run bytes is)).0 read)
+        by_run bytes is within (Err refusal) read =
+            none (answers.RunRefused refusal)
+            ((refl, program, input, can), (bytes, is, within, ((λ run spelled. absurd (cc (read, (reads_exactly bytes run (small sources.Run bytes is)).1 spelled))), read)))
 
-  -- .. an input has too little gas or enough, ..
-  no_gas : (program : Program) (input : Input) → HasProgram readings program → HasInput readings program input → ⊥
-  no_gas program input has has_input = elim (cases_lt input.gas entry_gas) [
-    | inl less ↦ none (answers.NotEnoughGas entry_gas input.gas) (program, input, has, has_input, less, refl, refl)
-    | inr enough ↦ no_bytes program input (record { program_read = has; input_read = has_input; gas = omega arith })
-  ]
+    -- .. an input has too little gas or enough, ..
+    no_gas : (program : Program) (input : Input) → HasProgram readings program → HasInput readings program input → ⊥
+    no_gas program input has has_input = elim (cases_lt input.gas entry_gas) [
+      | inl less ↦ none (answers.NotEnoughGas entry_gas input.gas) (program, input, has, has_input, less, refl, refl)
+      | inr enough ↦ no_bytes program input (record { program_read = has; input_read = has_input; gas = omega arith })
+    ]
 
-  -- .. and a text is none or one of an input, and of a program
-  no_input : (program : Program) → HasProgram readings program → ⊥
-  no_input program has = held sources.Input (refl, program, has) (λ text is within.
-    none answers.NotBuilt (inr (program, has, (text, is, within, λ input is_input. no_gas program input has (text, is, within, is_input)))))
+    -- .. and a text is none or one of an input, and of a program
+    no_input : (program : Program) → HasProgram readings program → ⊥
+    no_input program has = held sources.Input (refl, program, has) (λ text is within.
+        none answers.NotBuilt (inr (program, has, (text, is, within, λ input is_input. no_gas program input has (text, is, within, is_input)))))
 
-  no_program : ⊥
-  no_program = held sources.Program refl (λ text is within.
-    none answers.NotBuilt (inl (text, is, within, λ program is_program. no_input program (text, is, within, is_program))))
+    no_program : ⊥
+    no_program = held sources.Program refl (λ text is within.
+        none answers.NotBuilt (inl (text, is, within, λ program is_program. no_input program (text, is, within, is_program))))
 
 pub some_answer : (command : Option Command) (readings : Readings) → ((source : Source) (bytes : List ℕ) → readings source ≡ found bytes → All (λ byte. byte < 256) bytes) → ((answer : Answer) → Cause command readings answer → ⊥) → ⊥
 some_answer None readings small none = none answers.NotBuilt refl

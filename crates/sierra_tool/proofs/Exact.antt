@@ -2,6 +2,7 @@
 use Rattle.std.proofs.Common.{◌≡◌, ◌≢◌, ℕ, ◌≤◌, List, [], ◌∷◌, length, Option, Some, None, refl, sym, ◌∙◌, ap, subst, inl, inr, ◌⊎◌, arith}
 use Rattle.std.specs.Prelude.{MatchOption, IsSome, codes}
 use Rattle.std.specs.FinMap.{get}
+use Rattle.std.specs.Option.{option_and_then}
 use Rattle.edge_io.specs.Files.{FileMap, FilesView}
 use Rattle.edge_io.specs.Sinks.{SinkView}
 use Rattle.sierra_tool.specs.declared.answer.Answer.{Answer}
@@ -13,7 +14,7 @@ use Rattle.sierra_tool.specs.declared.command.Source.TheVariants as sources
 use Rattle.sierra_tool.specs.declared.program.Program.{Program}
 use Rattle.sierra_tool.specs.declared.input.Input.{Input}
 use Rattle.sierra_tool.specs.Answers.{status_of}
-use Rattle.sierra_tool.specs.Causes.{Reading, absent, unread, found, Readings, reading_of, reading_at, readings_of, Gives, AreReadings, Holds, CanRun, ComesTo, Cause}
+use Rattle.sierra_tool.specs.Causes.{Reading, absent, unread, found, Readings, reading_of, readings_of, Gives, AreReadings, Holds, CanRun, ComesTo, Cause}
 use Rattle.sierra_tool.specs.Forms.{IsProgram}
 use Rattle.sierra_tool.specs.Command.{IsCommand, Parses, name_of, IsRead, limit}
 use Rattle.sierra_tool.specs.Tool.{Tool, IsExact}
@@ -29,37 +30,37 @@ holds_over : (source : Source) (is : List ℕ → Type 0) (given other : Reading
 holds_over source is given other agrees held = (held.0, agrees (λ e. cc (held.1)) ∙ held.1, held.2, held.3)
 
 module _ (command other : Command) (readings others : Readings)
-  (same : (source : Source) → name_of (Some command) source ≡ name_of (Some other) source)
-  (agrees : Agrees readings others)
+    (same : (source : Source) → name_of (Some command) source ≡ name_of (Some other) source)
+    (agrees : Agrees readings others)
   where
-  read_over : (source : Source) → IsRead command source → IsRead other source
-  read_over source is = subst (λ name. IsSome name) (same source) is
+    read_over : (source : Source) → IsRead command source → IsRead other source
+    read_over source is = subst (λ name. IsSome name) (same source) is
 
-  held_over : (source : Source) (is : List ℕ → Type 0) → Holds source (readings source) is → Holds source (others source) is
-  held_over source is = holds_over source is (readings source) (others source) (agrees source)
+    held_over : (source : Source) (is : List ℕ → Type 0) → Holds source (readings source) is → Holds source (others source) is
+    held_over source is = holds_over source is (readings source) (others source) (agrees source)
 
-  can_over : (program : Program) (input : Input) → CanRun readings program input → CanRun others program input
-  can_over program input can =
-      record { program_read = held_over sources.Program _ can.program_read; input_read = held_over sources.Input _ can.input_read; gas = can.gas }
+    can_over : (program : Program) (input : Input) → CanRun readings program input → CanRun others program input
+    can_over program input can =
+        record { program_read = held_over sources.Program _ can.program_read; input_read = held_over sources.Input _ can.input_read; gas = can.gas }
 
-  comes_over : (source : Source) → ComesTo command readings source → ComesTo other others source
-  comes_over sources.Program comes = read_over sources.Program comes
-  comes_over sources.Input comes = (read_over sources.Input comes.0, comes.1, held_over sources.Program (λ text. IsProgram text comes.1) comes.2)
-  comes_over sources.Run comes = (read_over sources.Run comes.0, comes.1, comes.2, can_over comes.1 comes.2 comes.3)
+    comes_over : (source : Source) → ComesTo command readings source → ComesTo other others source
+    comes_over sources.Program comes = read_over sources.Program comes
+    comes_over sources.Input comes = (read_over sources.Input comes.0, comes.1, held_over sources.Program (λ text. IsProgram text comes.1) comes.2)
+    comes_over sources.Run comes = (read_over sources.Run comes.0, comes.1, comes.2, can_over comes.1 comes.2 comes.3)
 
-  cause_over : (answer : Answer) → ((source : Source) → answer ≢ answers.ReadFault source) → Cause (Some command) readings answer → Cause (Some other) others answer
-  cause_over (answers.Missing source) calm c = (comes_over source c.0, agrees source (λ e. cc (c.1)) ∙ c.1)
-  cause_over (answers.ReadFault source) calm c = absurd (calm source refl)
-  cause_over (answers.TooLong source) calm c =
-      let long = c.1 in
-      (comes_over source c.0, (long.0, agrees source (λ e. cc (long.1)) ∙ long.1, long.2))
-  cause_over answers.NotBuilt calm (inl c) = inl (held_over sources.Program _ c)
-  cause_over answers.NotBuilt calm (inr c) = inr (c.0, held_over sources.Program _ c.1, held_over sources.Input _ c.2)
-  cause_over (answers.NotEnoughGas need given) calm c =
-      (c.0, c.1, held_over sources.Program _ c.2, held_over sources.Input _ c.3, c.4, c.5, c.6)
-  cause_over (answers.RunRefused refusal) calm c = (comes_over sources.Run c.0, held_over sources.Run _ c.1)
-  cause_over answers.RunRejected calm c = (c.0, c.1, c.2, can_over c.0 c.1 c.3, held_over sources.Run _ c.4, c.5)
-  cause_over (answers.Judged verdict) calm c = (c.0, c.1, c.2, can_over c.0 c.1 c.3, held_over sources.Run _ c.4, c.5, c.6)
+    cause_over : (answer : Answer) → ((source : Source) → answer ≢ answers.ReadFault source) → Cause (Some command) readings answer → Cause (Some other) others answer
+    cause_over (answers.Missing source) calm c = (comes_over source c.0, agrees source (λ e. cc (c.1)) ∙ c.1)
+    cause_over (answers.ReadFault source) calm c = absurd (calm source refl)
+    cause_over (answers.TooLong source) calm c =
+        let long = c.1 in
+        (comes_over source c.0, (long.0, agrees source (λ e. cc (long.1)) ∙ long.1, long.2))
+    cause_over answers.NotBuilt calm (inl c) = inl (held_over sources.Program _ c)
+    cause_over answers.NotBuilt calm (inr c) = inr (c.0, held_over sources.Program _ c.1, held_over sources.Input _ c.2)
+    cause_over (answers.NotEnoughGas need given) calm c =
+        (c.0, c.1, held_over sources.Program _ c.2, held_over sources.Input _ c.3, c.4, c.5, c.6)
+    cause_over (answers.RunRefused refusal) calm c = (comes_over sources.Run c.0, held_over sources.Run _ c.1)
+    cause_over answers.RunRejected calm c = (c.0, c.1, c.2, can_over c.0 c.1 c.3, held_over sources.Run _ c.4, c.5)
+    cause_over (answers.Judged verdict) calm c = (c.0, c.1, c.2, can_over c.0 c.1 c.3, held_over sources.Run _ c.4, c.5, c.6)
 
 -- the same arguments are commands that read the same
 same_names : (arguments : List (List ℕ)) (command other : Option Command) → Parses arguments command → Parses arguments other → (source : Source) → name_of command source ≡ name_of other source
@@ -84,14 +85,14 @@ of_file None given is read = sym is
 of_file (Some bytes) given (inl is) read = sym is
 of_file (Some bytes) given (inr is) read = absurd (read is)
 
-of_name : (files : FileMap) (name : Option (List ℕ)) (given : Reading) → MatchOption name (given ≡ absent) (λ n. Gives (Some files) n given) → given ≢ unread → reading_at files name ≡ given
+of_name : (files : FileMap) (name : Option (List ℕ)) (given : Reading) → MatchOption name (given ≡ absent) (λ n. Gives (Some files) n given) → given ≢ unread → reading_of (option_and_then (get files) name) ≡ given
 of_name files None given is read = sym is
 of_name files (Some name) given is read = of_file (get files name) given is read
 
 -- what was read is what the map has, by another command that reads the same too
 known_agrees : (arguments : List (List ℕ)) (files : FileMap) (command other : Option Command) (readings : Readings) → Parses arguments command → Parses arguments other → AreReadings (Some files) command readings → Agrees readings (readings_of files other)
 known_agrees arguments files command other readings p q given source read =
-    ap (reading_at files) (sym (same_names arguments command other p q source)) ∙ of_name files (name_of command source) (readings source) (given source) read
+    ap (λ name. reading_of (option_and_then (get files) name)) (sym (same_names arguments command other p q source)) ∙ of_name files (name_of command source) (readings source) (given source) read
 
 -- ---- The status
 

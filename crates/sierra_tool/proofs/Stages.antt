@@ -27,7 +27,7 @@ use Rattle.sierra_tool.specs.Command.{limit}
 use Rattle.sierra_tool.specs.Forms.{IsProgram, IsInput}
 use Rattle.sierra_tool.specs.Meaning.{entry_gas}
 use Rattle.sierra_tool.specs.Stages.{Stops, IsUnfit, IsRefused, NoProgram, NoInput, NoRun, ReadsSource, IsCaused, Works, IsNotMissing, IsDelivered, OfRun}
-use Rattle.sierra_tool.specs.Tool.{IsCounted, MayHaveFirst, IsOutOfMemory, Answers}
+use Rattle.sierra_tool.specs.Tool.{IsCounted, MayHaveFirst, IsOutOfMemory, IsAnswered}
 use Rattle.sierra_tool.proofs.Causes.{one_answer}
 
 -- what holds of a fault holds of a result that passes it on
@@ -119,8 +119,8 @@ are_given known check program input run p i r sources.Input = i
 are_given known check program input run p i r sources.Run = r
 
 on_stop : (P Q : Answer → Type 0) (M N : Type 0) → ((answer : Answer) → P answer → Q answer) → (M → N) → (stop : Stop) → Stops P M stop → Stops Q N stop
-on_stop P Q M N refused unkept (stops.Refused answer) h = refused answer h
-on_stop P Q M N refused unkept stops.OutOfMemory h = unkept h
+on_stop P Q M N refused out_of_memory (stops.Refused answer) h = refused answer h
+on_stop P Q M N refused out_of_memory stops.OutOfMemory h = out_of_memory h
 
 abbrev pub TakesProgram : Reading → Program → Type 0
 TakesProgram given program = Holds sources.Program given (λ text. IsProgram text program)
@@ -172,7 +172,7 @@ stops_at_input check before middle now program stop first part =
           (λ present. may_be_there known check.program.now first.reading first.given (held_present sources.Program first.reading (λ text. IsProgram text program) first.outcome)) stop part.outcome;
     }
 
--- .. for want of gas, ..
+-- .. for too little gas, ..
 pub stops_at_gas : (check : Check) (before middle now : FilesView) (program : Program) (input : Input) (need given : ℕ) → ReadsSource before middle check.program.now TakesProgram (IsRefused sources.Program NoProgram) (Ok program) → ReadsSource middle now check.input.now TakesInput (IsRefused sources.Input NoInput) (Ok input) → given < need → need ≡ entry_gas → given ≡ input.gas → Works before now (Some (commands.Check check)) (Err (stops.Refused (answers.NotEnoughGas need given)))
 stops_at_gas check before middle now program input need given first second less need_is given_is =
     let known = before.contents in
@@ -239,7 +239,7 @@ first_may_be_there known (commands.Check check) readings answer given cause not_
     (λ is. not_missing sources.Program (one_answer (Some (commands.Check check)) readings answer (answers.Missing sources.Program) cause (refl, is)))
 
 -- what the tool did, where the answer of a command was delivered
-pub delivers_answer : (before now : FilesView) (out written : SinkView) (command : Command) (readings : Readings) (answer : Answer) (status : ℕ) → AreReadings before.contents (Some command) readings → IsCaused before now (Some command) readings answer → IsDelivered out written (Some command) answer status → Answers before now out written (Some command) status ⊎ IsOutOfMemory before.contents out written (Some command) status
+pub delivers_answer : (before now : FilesView) (out written : SinkView) (command : Command) (readings : Readings) (answer : Answer) (status : ℕ) → AreReadings before.contents (Some command) readings → IsCaused before now (Some command) readings answer → IsDelivered out written (Some command) answer status → IsAnswered before now out written (Some command) status ⊎ IsOutOfMemory before.contents out written (Some command) status
 delivers_answer before now out written command readings answer status given caused (inl delivered) =
     inl (record { readings = readings; given = given; answer = answer; cause = caused.0; counted = caused.1; delivered = delivered })
 delivers_answer before now out written command readings answer status given caused (inr (is, nothing, not_missing)) =

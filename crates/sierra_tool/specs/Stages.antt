@@ -24,8 +24,8 @@ use Rattle.sierra_tool.specs.Tool.{IsCounted, Delivers, MayHaveFirst}
 
 -- a stop is a refusal or out of memory
 abbrev pub Stops : (Answer → Type 0) → Type 0 → Stop → Type 0
-Stops refused unkept (stops.Refused answer) = refused answer
-Stops refused unkept stops.OutOfMemory = unkept
+Stops refused out_of_memory (stops.Refused answer) = refused answer
+Stops refused out_of_memory stops.OutOfMemory = out_of_memory
 
 -- the refusal of a source that isn't there, wasn't read or is too long
 abbrev pub IsUnfit : Source → Reading → Answer → Type 0

@@ -31,7 +31,7 @@ abbrev pub IsOutOfMemory : Option FileMap → SinkView → SinkView → Option C
 IsOutOfMemory known before now command status = (status ≡ 6) × MayHaveFirst known command × WritesAll before now []
 
 -- the answer that what the files gave causes was written
-pub record Answers (before now : FilesView) (out written : SinkView) (command : Option Command) (status : ℕ) : Type 0 where
+pub record IsAnswered (before now : FilesView) (out written : SinkView) (command : Option Command) (status : ℕ) : Type 0 where
   pub readings : Readings
   pub given : AreReadings before.contents command readings
   pub answer : Answer
@@ -43,7 +43,7 @@ pub record Answers (before now : FilesView) (out written : SinkView) (command : 
 abbrev pub Tool : List (List ℕ) → FilesView → FilesView → SinkView → SinkView → ℕ → Type 0
 Tool arguments before now out written status =
     (command : Option Command) × Parses arguments command
-    × (Answers before now out written command status ⊎ IsOutOfMemory before.contents out written command status)
+    × (IsAnswered before now out written command status ⊎ IsOutOfMemory before.contents out written command status)
 
 -- Of known files, without a failed read or write and not out of memory, each status comes if and only if an answer of this
 -- status has its cause in what the files have.

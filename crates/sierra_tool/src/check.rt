@@ -35,7 +35,12 @@ impl Check<'_> {
 }
 
 /// The bytes of a source.
-fn bytes<F: Files>(alloc: Global, files: &mut F, source: Source, name: &str) -> Result<Vec<u8>, Stop>
+fn bytes<F: Files>(
+    alloc: Global,
+    files: &mut F,
+    source: Source,
+    name: &str,
+) -> Result<Vec<u8>, Stop>
     ensures { ReadsSource (F.view files.old) (F.view files.new) name.now
         (λ given bytes. IsFound source given bytes.items) (IsUnfit source) result }
 {

@@ -61,7 +61,10 @@ impl fmt::Display for Verdict {
         let gas = self.outcome.gas_used;
         let steps = self.steps;
         let checks = self.checks;
-        write!(f, "{outcome}gas used {gas}\nsteps {steps}\nchecks {checks}\n")
+        write!(
+            f,
+            "{outcome}gas used {gas}\nsteps {steps}\nchecks {checks}\n"
+        )
     }
 }
 

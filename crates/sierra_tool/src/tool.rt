@@ -50,12 +50,7 @@ pub fn sierra_tool<F: Files, S: Sink>(
 }
 
 /// Answers the arguments, and gives the status.
-fn work<F: Files, S: Sink>(
-    alloc: Global,
-    arguments: &[String],
-    files: &mut F,
-    out: &mut S,
-) -> u8
+fn work<F: Files, S: Sink>(alloc: Global, arguments: &[String], files: &mut F, out: &mut S) -> u8
     ensures keeps { Keeps (F.view files.old) (F.view files.new) }
     ensures tool { Tool (map string_bytes arguments.now)
         (F.view files.old) (F.view files.new) (S.view out.old) (S.view out.new) result }

@@ -7,6 +7,6 @@ loop-done-preserved g c = (
   le_length-of_rest _ _ _ c.loop-done.invariant.0 c.in_ok-taken.ensures.within,
   record {
     appended = Appends-take-more _ _ _ _ _ _ c.loop-done.invariant.1.appended c.in_ok-taken.ensures.writes.appended;
-    faults = omega (arith, c.in_ok-taken.ensures.writes.faults, c.loop-done.invariant.1.faults);
+    kept = omega (arith, c.in_ok-taken.ensures.writes.kept, c.loop-done.invariant.1.kept);
   },
 )
