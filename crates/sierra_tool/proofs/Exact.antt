@@ -13,11 +13,11 @@ use Rattle.sierra_tool.specs.declared.command.Source.{Source}
 use Rattle.sierra_tool.specs.declared.command.Source.TheVariants as sources
 use Rattle.sierra_tool.specs.declared.program.Program.{Program}
 use Rattle.sierra_tool.specs.declared.input.Input.{Input}
-use Rattle.sierra_tool.specs.Answers.{status_of}
-use Rattle.sierra_tool.specs.Causes.{Reading, absent, unread, found, Readings, reading_of, readings_of, Gives, AreReadings, Holds, CanRun, ComesTo, Cause}
+use Rattle.sierra_tool.specs.Causes.{Reading, absent, unread, found, Readings, Gives, AreReadings, Holds, CanRun, ComesTo, Cause}
 use Rattle.sierra_tool.specs.Forms.{IsProgram}
-use Rattle.sierra_tool.specs.Command.{IsCommand, Parses, name_of, IsRead, limit}
-use Rattle.sierra_tool.specs.Tool.{Tool, IsExact}
+use Rattle.sierra_tool.specs.Command.{Parses, name_of, IsRead, status_of}
+use Rattle.sierra_tool.specs.Exact.{reading_of, readings_of, IsExact}
+use Rattle.sierra_tool.specs.Tool.{Tool}
 use Rattle.sierra_tool.proofs.Causes.{one_answer}
 
 -- ---- Two commands that read the same, from sources that gave the same

@@ -22,8 +22,9 @@ use Rattle.sierra_tool.specs.declared.command.Source.{Source}
 use Rattle.sierra_tool.specs.declared.command.Source.TheVariants as sources
 use Rattle.sierra_tool.specs.declared.program.Program.{Program}
 use Rattle.sierra_tool.specs.declared.input.Input.{Input}
-use Rattle.sierra_tool.specs.Causes.{Reading, absent, unread, found, Readings, reading_of, Gives, AreReadings, Holds, IsTooLong, IsRunFile, HasProgram, HasInput, HasRun, CanRun, ComesTo, Cause}
+use Rattle.sierra_tool.specs.Causes.{Reading, absent, unread, found, Readings, Gives, AreReadings, Holds, IsTooLong, IsRunFile, HasProgram, HasInput, HasRun, CanRun, ComesTo, Cause}
 use Rattle.sierra_tool.specs.Command.{limit}
+use Rattle.sierra_tool.specs.Exact.{reading_of}
 use Rattle.sierra_tool.specs.Forms.{IsProgram, IsInput}
 use Rattle.sierra_tool.specs.Meaning.{entry_gas}
 use Rattle.sierra_tool.specs.Stages.{Stops, IsUnfit, IsRefused, NoProgram, NoInput, NoRun, ReadsSource, IsCaused, Works, IsNotMissing, IsDelivered, OfRun}

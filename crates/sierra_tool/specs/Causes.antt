@@ -1,7 +1,6 @@
 -- What the sources of a command gave, and which answer that causes.
 use Rattle.std.specs.Prelude.{ℕ, ◌≡◌, ◌<◌, ◌≤◌, ◌⊎◌, List, length, Option, Some, None, Result, Err, MatchOption}
 use Rattle.std.specs.FinMap.{get}
-use Rattle.std.specs.Option.{option_and_then}
 use Rattle.edge_io.specs.Files.{FileMap}
 use Rattle.run_file.specs.declared.refusal.FileRefusal.{FileRefusal}
 use Rattle.run_file.specs.declared.run.Run.{Run}
@@ -29,15 +28,6 @@ pub data Reading : Type 0 where
 
 abbrev pub Readings : Type 0
 Readings = Source → Reading
-
--- what a file that is there, or isn't, gives where no read fails
-abbrev pub reading_of : Option (List ℕ) → Reading
-reading_of None = absent
-reading_of (Some bytes) = found bytes
-
--- the readings of a known map where no read fails; a source that the command doesn't read has no file
-abbrev pub readings_of : FileMap → Option Command → Readings
-readings_of files command source = reading_of (option_and_then (get files) (name_of command source))
 
 -- What a file can give: of a known map what it has there, or, of a file that it has, a failed read; else anything.
 abbrev pub Gives : Option FileMap → List ℕ → Reading → Type 0

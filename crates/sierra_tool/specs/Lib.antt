@@ -1,7 +1,7 @@
 pub mod Accepted
-pub mod Answers
 pub mod Causes
 pub mod Command
+pub mod Exact
 pub mod Forms
 pub mod Meaning
 pub mod Runs

@@ -15,11 +15,10 @@ use Rattle.sierra_tool.specs.declared.output.Unwritten.TheVariants as unwritten
 use Rattle.sierra_tool.specs.declared.program.Program.{Program}
 use Rattle.sierra_tool.specs.declared.input.Input.{Input}
 use Rattle.sierra_tool.specs.Causes.{Reading, absent, unread, found, Readings, Gives, AreReadings, Holds, IsTooLong, IsNoRunFile, Cause}
-use Rattle.sierra_tool.specs.Command.{limit}
 use Rattle.sierra_tool.specs.Forms.{IsProgram, IsInput}
 use Rattle.sierra_tool.specs.Runs.{IsAccepted, IsVerdict}
 use Rattle.sierra_tool.specs.declared.verdict.Verdict.{Verdict}
-use Rattle.sierra_tool.specs.Answers.{status_of, text_of}
+use Rattle.sierra_tool.specs.Command.{limit, status_of, text_of}
 use Rattle.sierra_tool.specs.Tool.{IsCounted, Delivers, MayHaveFirst}
 
 -- a stop is a refusal or out of memory

@@ -1,5 +1,5 @@
 -- The tool: which status it ends with, and what it has written then.
-use Rattle.std.specs.Prelude.{ℕ, ◌≡◌, ◌≢◌, ◌⊎◌, ◌↔◌, List, [], Option, Some, None, MatchOption}
+use Rattle.std.specs.Prelude.{ℕ, ◌≡◌, ◌≢◌, ◌⊎◌, List, [], Option, None, MatchOption}
 use Rattle.edge_io.specs.Counts.{Rose}
 use Rattle.edge_io.specs.Files.{FileMap, FilesView, ForFile}
 use Rattle.edge_io.specs.Sinks.{SinkView, WritesAll, WritesPart}
@@ -7,9 +7,8 @@ use Rattle.sierra_tool.specs.declared.answer.Answer.{Answer}
 use Rattle.sierra_tool.specs.declared.answer.Answer.TheVariants as answers
 use Rattle.sierra_tool.specs.declared.command.Command.{Command}
 use Rattle.sierra_tool.specs.declared.command.Source.{Source}
-use Rattle.sierra_tool.specs.Answers.{status_of, text_of}
-use Rattle.sierra_tool.specs.Causes.{Readings, AreReadings, readings_of, Cause}
-use Rattle.sierra_tool.specs.Command.{Parses, first_name}
+use Rattle.sierra_tool.specs.Causes.{Readings, AreReadings, Cause}
+use Rattle.sierra_tool.specs.Command.{Parses, first_name, status_of, text_of}
 
 -- a missing file comes only with a miss that was counted, and a failed read with a fault
 pub record IsCounted (before now : FilesView) (answer : Answer) : Type 0 where
@@ -44,11 +43,3 @@ abbrev pub Tool : List (List ℕ) → FilesView → FilesView → SinkView → S
 Tool arguments before now out written status =
     (command : Option Command) × Parses arguments command
     × (IsAnswered before now out written command status ⊎ IsOutOfMemory before.contents out written command status)
-
--- Of known files, without a failed read or write and not out of memory, each status comes if and only if an answer of this
--- status has its cause in what the files have.
-abbrev pub IsExact : List (List ℕ) → Option FileMap → ℕ → Type 0
-IsExact arguments None status = Unit {0}
-IsExact arguments (Some files) status =
-    status ≢ 4 → status ≢ 5 → status ≢ 6 → (command : Option Command) → Parses arguments command →
-    (k : ℕ) → (status ≡ k) ↔ ((answer : Answer) × (status_of answer ≡ k) × Cause command (readings_of files command) answer)

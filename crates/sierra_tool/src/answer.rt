@@ -2,7 +2,7 @@
 //! writes them, and the top call ends with their status.
 
 ghost use Rattle.std.specs.Prelude.{◌≡◌};
-ghost use Rattle.sierra_tool.specs.Answers.{status_of};
+ghost use Rattle.sierra_tool.specs.Command.{status_of};
 ghost use Rattle.sierra_tool.specs.declared.answer.Stop.TheVariants.{OutOfMemory};
 
 use crate::command::Source;

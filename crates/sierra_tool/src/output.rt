@@ -4,8 +4,7 @@
 ghost use Rattle.std.specs.Prelude.{◌≡◌, ◌++◌, [], ◌∷◌, Some, IfOk, string_bytes};
 ghost use Rattle.std.specs.Option.{unwrap_or};
 ghost use Rattle.edge_io.specs.Sinks.{Writes};
-ghost use Rattle.sierra_tool.specs.Answers.{value_line, verdict_text, text_of};
-ghost use Rattle.sierra_tool.specs.Command.{name_of};
+ghost use Rattle.sierra_tool.specs.Command.{name_of, value_line, verdict_text, text_of};
 ghost use Rattle.sierra_tool.specs.Stages.{IsWritten};
 ghost use Rattle.sierra_tool.specs.declared.output.Unwritten.TheVariants as unwritten;
 

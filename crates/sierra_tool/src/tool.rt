@@ -3,9 +3,10 @@
 ghost use Rattle.std.specs.Prelude.{◌≡◌, map, string_bytes, Some, None};
 ghost use Rattle.edge_io.specs.Counts.{Rose};
 ghost use Rattle.edge_io.specs.Files.{Keeps};
-ghost use Rattle.sierra_tool.specs.Answers.{text_of};
+ghost use Rattle.sierra_tool.specs.Command.{text_of};
 ghost use Rattle.sierra_tool.specs.Stages.{Works, IsDelivered};
-ghost use Rattle.sierra_tool.specs.Tool.{Tool, IsExact, Delivers};
+ghost use Rattle.sierra_tool.specs.Exact.{IsExact};
+ghost use Rattle.sierra_tool.specs.Tool.{Tool, Delivers};
 
 use crate::answer::{Answer, Stop};
 use crate::command::Command;
