@@ -10,12 +10,12 @@ use Rattle.edge_io.specs.Sinks.{Appends}
 rest_is : (n : ℕ) (xs : List ℕ) → between n (length xs) xs ≡ drop n xs
 rest_is n xs = between_to_end xs n (length xs) (omega arith)
 
--- a front of the rest is no longer than the rest
+-- a prefix of the rest is no longer than the rest
 pub le_length-of_rest : (n m : ℕ) (xs : List ℕ) → n ≤ length xs → m ≤ length (between n (length xs) xs) → n + m ≤ length xs
 le_length-of_rest n m xs h k =
     let e : m ≤ length (drop n xs) = rw (rest_is n xs) at k in omega (arith, length-drop n xs)
 
--- a front, and then a front of the rest
+-- a prefix, and then a prefix of the rest
 pub Appends-take-more : (a b c : Option (List ℕ)) (n m : ℕ) (xs : List ℕ) → Appends a b (take n xs) → Appends b c (take m (between n (length xs) xs)) → Appends a c (take (n + m) xs)
 Appends-take-more a b None n m xs h k = tt
 Appends-take-more a None (Some z) n m xs h k = absurd k

@@ -4,18 +4,22 @@ use Rattle.std.proofs.Common.{ap, ◌∙◌, length-append, ℕ, ◌≡◌, ◌+
 use Rattle.std.specs.Prelude.{MatchOption}
 use Rattle.std.proofs.Math.Seq.{take-add}
 use Rattle.std.specs.FinMap.{get}
-use Rattle.edge_io.specs.Files.{FileMap, ForFile, ReadsAt}
+use Rattle.edge_io.specs.Files.{FileMap, FilesView, Keeps, ForFile, ReadsAt}
 
 there_both : (found : Option (List ℕ)) (A B C : Type 0) (P Q R : List ℕ → Type 0) → (A → B → C) → ((bytes : List ℕ) → P bytes → Q bytes → R bytes) → MatchOption found A P → MatchOption found B Q → MatchOption found C R
 there_both None A B C P Q R f h p q = f p q
 there_both (Some bytes) A B C P Q R f h p q = h bytes p q
 
--- two facts of a told file give a third
+-- what two calls keep, both keep
+pub Keeps-more : (a b c : FilesView) → Keeps a b → Keeps b c → Keeps a c
+Keeps-more a b c h k = record { contents = k.contents ∙ h.contents; faults = omega arith; misses = omega arith }
+
+-- two facts of a known file give a third
 pub ForFile-both : (files : Option FileMap) (name : List ℕ) (A B C : Type 0) (P Q R : List ℕ → Type 0) → (A → B → C) → ((bytes : List ℕ) → P bytes → Q bytes → R bytes) → ForFile files name A P → ForFile files name B Q → ForFile files name C R
 ForFile-both None name A B C P Q R f h p q = tt
 ForFile-both (Some files) name A B C P Q R f h p q = there_both (get files name) A B C P Q R f h p q
 
--- a piece's front adds its length
+-- a piece's first bytes add their count
 pub length-more : (n : ℕ) (whole now buffer : List ℕ) → n ≤ length buffer → now ≡ whole ++ take n buffer → length now ≡ length whole + n
 length-more n whole now buffer h e =
     ap length e ∙ (length-append whole (take n buffer) ∙ ap (λ m. length whole + m) (length-take-le n buffer h))

@@ -1,4 +1,4 @@
--- Counts of calls and faults: they never fall, and stand still at the last value of a u64.
+-- Counts of calls and faults: they never fall, and stay at the greatest value of a u64.
 use Rattle.std.specs.Prelude.{ℕ, ◌+◌, ◌-◌, ◌^◌, ◌≤◌, ◌==◌, Bool, List, min}
 use Rattle.std.specs.List.{list_any}
 
@@ -6,7 +6,7 @@ use Rattle.std.specs.List.{list_any}
 abbrev pub risen : ℕ → ℕ
 risen before = min (before + 1) (2 ^ 64 - 1)
 
--- the count rose, or stands at its last value
+-- the count rose, or is at its greatest value
 abbrev pub Rose : ℕ → ℕ → Type 0
 Rose before now = risen before ≤ now
 

@@ -4,7 +4,7 @@ use Rattle.std.specs.FinMap.{get, from_entries}
 use Rattle.edge_io.specs.declared.files.FileFault.{FileFault}
 use Rattle.edge_io.specs.declared.files.FileFault.TheVariants.{Missing, Failed}
 use Rattle.edge_io.specs.Counts.{risen, call_fails}
-use Rattle.edge_io.specs.Files.{FileMap}
+use Rattle.edge_io.specs.Files.{FileMap, FilesView}
 
 -- The files by their names, the numbers of the calls that fail, and how many calls there were, how many of them
 -- failed and how many named no file.
@@ -18,6 +18,14 @@ pub record FileTable : Type 0 where
 -- the first of equal names counts
 abbrev pub file_map : List (List ℕ × List ℕ) → FileMap
 file_map files = from_entries files
+
+-- what the table tells of itself
+abbrev pub table_view : FileTable → FilesView
+table_view t = record { contents = Some (file_map t.files); faults = t.faults; misses = t.misses }
+
+-- the same of one whose reads never fail
+abbrev pub quiet_view : FileTable → FilesView
+quiet_view t = record { contents = Some (file_map t.files); faults = 0; misses = t.misses }
 
 -- before the first call
 abbrev pub new_table : List (List ℕ × List ℕ) → List ℕ → FileTable

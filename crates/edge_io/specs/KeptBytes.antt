@@ -2,6 +2,7 @@
 use Rattle.std.specs.Prelude.{ℕ, ◌≡◌, ◌+◌, ◌-◌, ◌^◌, List, [], ◌++◌, length, take, Bool, true, false, Option, None, Some, Result, Ok, Err, min, max, ◌==◌, if◌then◌else◌}
 use Rattle.edge_io.specs.declared.sinks.Failed.{Failed}
 use Rattle.edge_io.specs.Counts.{risen, call_fails}
+use Rattle.edge_io.specs.Sinks.{SinkView}
 
 -- The bytes that were kept, for how many there is room, how many were left out past it, how many a write takes at
 -- most, the numbers of the calls that fail, and how many calls there were and how many of them failed.
@@ -21,6 +22,14 @@ nothing_kept cut fails room = record { bytes = []; room = room; left_out = 0; cu
 -- all that was written, while nothing was left out
 abbrev pub all_kept : KeptBytes → Option (List ℕ)
 all_kept k = if k.left_out == 0 then Some k.bytes else None
+
+-- what the sink tells of itself
+abbrev pub kept_view : KeptBytes → SinkView
+kept_view k = record { written = all_kept k; faults = k.faults }
+
+-- the same of one whose writes never fail
+abbrev pub quiet_sink_view : KeptBytes → SinkView
+quiet_sink_view k = record { written = all_kept k; faults = 0 }
 
 -- how many bytes of so many a write takes
 abbrev pub taken : KeptBytes → ℕ → ℕ

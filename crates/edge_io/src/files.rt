@@ -1,8 +1,8 @@
 //! Files by name: what comes in is a name and a place, what goes out is bytes or a fault with its cause.
 
-ghost use Rattle.std.specs.Prelude.{◌≡◌, ℕ, ◌≤◌, length, List, Option, IfOk, IsErrOf, MatchResult};
+ghost use Rattle.std.specs.Prelude.{◌≡◌, ◌≤◌, length, IfOk, IsErrOf, MatchResult};
 ghost use Rattle.edge_io.specs.Counts.{Rose};
-ghost use Rattle.edge_io.specs.Files.{FileMap, ForFile, ReadsAt};
+ghost use Rattle.edge_io.specs.Files.{FilesView, Keeps, ForFile, ReadsAt};
 ghost use Rattle.edge_io.specs.Reading.{ReadsWhole, read_fault};
 ghost use Rattle.edge_io.specs.declared.files.ReadFault.TheVariants.{Memory};
 
@@ -22,26 +22,18 @@ pub enum FileFault {
 
 /// Files that can be read by name.
 pub trait Files {
-    /// The bytes under each name, where the object tells them.
-    ghost contents: { Self → Option FileMap };
+    /// What the object tells of itself: its contents, where they are known, and its counts.
+    ghost view: { Self → FilesView };
 
-    /// How many reads have failed so far.
-    ghost faults: { Self → ℕ };
-
-    /// How many reads have named no file so far.
-    ghost misses: { Self → ℕ };
-
-    /// Reads from the byte `at` of a file into the front of `buf`, and answers how many bytes came.
+    /// Reads from the byte `at` of a file into the first bytes of `buf`, and answers how many bytes came.
     fn read_at(&mut self, name: &str, at: u64, buf: &mut [u8]) -> Result<usize, FileFault>
-        ensures same { contents self.new ≡ contents self.old }
-        ensures faults_kept { faults self.old ≤ faults self.new }
-        ensures misses_kept { misses self.old ≤ misses self.new }
+        ensures keeps { Keeps (view self.old) (view self.new) }
         ensures within { IfOk result (λ n. n ≤ length buf.old) }
-        ensures told { ForFile (contents self.old) name.now
+        ensures known { ForFile (view self.old).contents name.now
             (result ≡ Err FileFault.Missing)
             (λ bytes. MatchResult result (λ n. ReadsAt bytes at buf.new n) (λ e. e ≡ FileFault.Failed)) }
-        ensures missing { IsErrOf result FileFault.Missing → Rose (misses self.old) (misses self.new) }
-        ensures failed { IsErrOf result FileFault.Failed → Rose (faults self.old) (faults self.new) };
+        ensures missing { IsErrOf result FileFault.Missing → Rose (view self.old).misses (view self.new).misses }
+        ensures failed { IsErrOf result FileFault.Failed → Rose (view self.old).faults (view self.new).faults };
 }
 
 /// Why a file was not read whole.
@@ -83,22 +75,21 @@ impl From<AllocError> for ReadFault {
 /// How many bytes of a file are asked for at once.
 const PIECE: usize = 65_536;
 
-/// Reads a whole file of at most `limit` bytes. Memory is wanted only once a first piece has come.
+/// Reads a whole file of at most `limit` bytes. It takes memory only once a first piece has come, so it never runs out of
+/// memory where the known files lack the name.
 pub fn read_all<F: Files>(
     alloc: Global,
     files: &mut F,
     name: &str,
     limit: u64,
 ) -> Result<Vec<u8>, ReadFault>
-    ensures same { F.contents files.new ≡ F.contents files.old }
-    ensures faults_kept { F.faults files.old ≤ F.faults files.new }
-    ensures misses_kept { F.misses files.old ≤ F.misses files.new }
+    ensures keeps { Keeps (F.view files.old) (F.view files.new) }
     ensures within { IfOk result (λ v. length v.items ≤ limit) }
-    ensures told { ForFile (F.contents files.old) name.now
+    ensures known { ForFile (F.view files.old).contents name.now
         (result ≡ Err ReadFault.Missing)
         (λ bytes. ReadsWhole bytes limit result) }
-    ensures missing { IsErrOf result ReadFault.Missing → Rose (F.misses files.old) (F.misses files.new) }
-    ensures failed { IsErrOf result ReadFault.Failed → Rose (F.faults files.old) (F.faults files.new) }
+    ensures missing { IsErrOf result ReadFault.Missing → Rose (F.view files.old).misses (F.view files.new).misses }
+    ensures failed { IsErrOf result ReadFault.Failed → Rose (F.view files.old).faults (F.view files.new).faults }
 {
     let mut whole = Vec::new(alloc);
     let mut piece = [0; PIECE];

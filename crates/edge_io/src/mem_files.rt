@@ -7,8 +7,8 @@ ghost use Rattle.std.specs.Option.{option_map};
 ghost use Rattle.std.specs.FinMap.{get};
 ghost use Rattle.std.specs.Str.{bytes_eq};
 ghost use Rattle.edge_io.specs.Counts.{Rose};
-ghost use Rattle.edge_io.specs.Files.{ForFile, ReadsAt};
-ghost use Rattle.edge_io.specs.FileTable.{new_table, read_answer, read_buffer, counted, file_map};
+ghost use Rattle.edge_io.specs.Files.{Keeps, ForFile, ReadsAt};
+ghost use Rattle.edge_io.specs.FileTable.{new_table, table_view, read_answer, read_buffer, counted, file_map};
 
 use crate::files::{FileFault, Files};
 use std::marker::Model;
@@ -46,7 +46,7 @@ impl MemFiles {
         }
     }
 
-    /// How many calls there were, which is the number of the next one. It stands still at its last value.
+    /// How many calls there were, which is the number of the next one. It stays at its greatest value.
     pub fn calls(&self) -> u64
         ensures { result ≡ self.now.calls }
     {
@@ -91,8 +91,7 @@ impl MemFiles {
     /// Counts a call with this answer.
     fn count(&mut self, answer: Result<usize, FileFault>)
         ensures after { self.new ≡ counted self.old answer }
-        ensures faults_kept { self.old.faults ≤ self.new.faults }
-        ensures misses_kept { self.old.misses ≤ self.new.misses }
+        ensures keeps { Keeps (table_view self.old) (table_view self.new) }
     {
         self.calls = self.calls.saturating_add(1);
         match answer {
@@ -104,18 +103,12 @@ impl MemFiles {
 }
 
 impl Files for MemFiles {
-    ghost contents = { λ m. Some (file_map m.files) };
-
-    ghost faults = { λ m. m.faults };
-
-    ghost misses = { λ m. m.misses };
+    ghost view = { table_view };
 
     fn read_at(&mut self, name: &str, at: u64, buf: &mut [u8]) -> Result<usize, FileFault>
-        ensures same { file_map self.new.files ≡ file_map self.old.files }
-        ensures faults_kept { self.old.faults ≤ self.new.faults }
-        ensures misses_kept { self.old.misses ≤ self.new.misses }
+        ensures keeps { Keeps (table_view self.old) (table_view self.new) }
         ensures within { IfOk result (λ n. n ≤ length buf.old) }
-        ensures told { ForFile (Some (file_map self.old.files)) name.now
+        ensures known { ForFile (Some (file_map self.old.files)) name.now
             (result ≡ Err FileFault.Missing)
             (λ bytes. MatchResult result (λ n. ReadsAt bytes at buf.new n) (λ e. e ≡ FileFault.Failed)) }
         ensures missing { IsErrOf result FileFault.Missing → Rose self.old.misses self.new.misses }

@@ -1,10 +1,10 @@
 //! A sink in memory that fails where a list says so: what comes in are pieces, what goes out are the bytes that were
 //! kept. Tests of the layers above write to it.
 
-ghost use Rattle.std.specs.Prelude.{◌≡◌, ℕ, ◌≤◌, ◌<◌, length, take, [], IfOk, OnErr};
-ghost use Rattle.edge_io.specs.Counts.{Rose, call_fails};
-ghost use Rattle.edge_io.specs.Sinks.{Appends};
-ghost use Rattle.edge_io.specs.KeptBytes.{nothing_kept, all_kept, called, kept, WriteAnswers, after_write};
+ghost use Rattle.std.specs.Prelude.{◌≡◌, ℕ, ◌≤◌, ◌<◌, length, take, [], IfOk, MatchResult};
+ghost use Rattle.edge_io.specs.Counts.{call_fails};
+ghost use Rattle.edge_io.specs.Sinks.{WritesAll, WritesPart};
+ghost use Rattle.edge_io.specs.KeptBytes.{nothing_kept, kept_view, called, kept, WriteAnswers, after_write};
 
 use crate::sinks::{Failed, Sink};
 use std::alloc::{AllocError, Global};
@@ -56,14 +56,14 @@ impl MemSink {
         })
     }
 
-    /// The bytes that were kept: all that was written, or as much of its front as there was room for.
+    /// The bytes that were kept: all that was written, or as long a prefix as there was room for.
     pub fn bytes(&self) -> &[u8]
         ensures { result.now ≡ self.now.bytes }
     {
         &self.bytes
     }
 
-    /// How many calls there were, which is the number of the next one. It stands still at its last value.
+    /// How many calls there were, which is the number of the next one. It stays at its greatest value.
     pub fn calls(&self) -> u64
         ensures { result ≡ self.now.calls }
     {
@@ -102,17 +102,14 @@ impl MemSink {
 }
 
 impl Sink for MemSink {
-    ghost written = { all_kept };
-
-    ghost faults = { λ k. k.faults };
+    ghost view = { kept_view };
 
     fn write(&mut self, piece: &[u8]) -> Result<usize, Failed>
-        ensures faults_kept { self.old.faults ≤ self.new.faults }
         ensures within { IfOk result (λ n. n ≤ length piece.now) }
         ensures takes { 0 < length piece.now → IfOk result (λ n. 0 < n) }
-        ensures appended { IfOk result (λ n. Appends (all_kept self.old) (all_kept self.new) (take n piece.now)) }
-        ensures nothing { OnErr result (Appends (all_kept self.old) (all_kept self.new) []) }
-        ensures failed { OnErr result (Rose self.old.faults self.new.faults) }
+        ensures writes { MatchResult result
+            (λ n. WritesAll (kept_view self.old) (kept_view self.new) (take n piece.now))
+            (λ _. WritesPart (kept_view self.old) (kept_view self.new) []) }
         ensures answer { WriteAnswers self.old piece.now result }
         ensures after { self.new ≡ after_write self.old piece.now result }
     {

@@ -1,8 +1,7 @@
 //! Where output goes: what comes in is a piece of bytes, what goes out is how many of them were taken, or a fault.
 
-ghost use Rattle.std.specs.Prelude.{◌≡◌, ℕ, ◌<◌, ◌≤◌, length, take, List, [], Option, IfOk, OnErr, OnOk};
-ghost use Rattle.edge_io.specs.Counts.{Rose};
-ghost use Rattle.edge_io.specs.Sinks.{Appends, AppendsFront};
+ghost use Rattle.std.specs.Prelude.{◌<◌, ◌≤◌, length, take, [], IfOk, MatchResult};
+ghost use Rattle.edge_io.specs.Sinks.{SinkView, WritesAll, WritesPart, Writes};
 
 use thiserror::Error;
 
@@ -13,28 +12,22 @@ pub struct Failed;
 
 /// A place that takes bytes in order.
 pub trait Sink {
-    /// All bytes that were written, where the object tells them. One that stops telling never tells again.
-    ghost written: { Self → Option (List ℕ) };
+    /// What the object tells of itself: all that was written, where it is known, and its count of faults. One that stops
+    /// telling what was written never tells again.
+    ghost view: { Self → SinkView };
 
-    /// How many writes have failed so far.
-    ghost faults: { Self → ℕ };
-
-    /// Takes a front of the piece, at least a byte of one that isn't empty, and answers how many bytes it took.
+    /// Takes a prefix of the piece, at least a byte of one that isn't empty, and answers how many bytes it took.
     fn write(&mut self, piece: &[u8]) -> Result<usize, Failed>
-        ensures faults_kept { faults self.old ≤ faults self.new }
         ensures within { IfOk result (λ n. n ≤ length piece.now) }
         ensures takes { 0 < length piece.now → IfOk result (λ n. 0 < n) }
-        ensures appended { IfOk result (λ n. Appends (written self.old) (written self.new) (take n piece.now)) }
-        ensures nothing { OnErr result (Appends (written self.old) (written self.new) []) }
-        ensures failed { OnErr result (Rose (faults self.old) (faults self.new)) };
+        ensures writes { MatchResult result
+            (λ n. WritesAll (view self.old) (view self.new) (take n piece.now))
+            (λ _. WritesPart (view self.old) (view self.new) []) };
 }
 
-/// Writes all bytes, in as many pieces as the sink wants. After a fault a front of them was written.
+/// Writes all bytes, in as many pieces as the sink wants. It takes no memory. After a fault a prefix of them was written.
 pub fn write_all<S: Sink>(sink: &mut S, bytes: &[u8]) -> Result<(), Failed>
-    ensures faults_kept { S.faults sink.old ≤ S.faults sink.new }
-    ensures ok { OnOk result (Appends (S.written sink.old) (S.written sink.new) bytes.now) }
-    ensures front { OnErr result (AppendsFront (S.written sink.old) (S.written sink.new) bytes.now) }
-    ensures failed { OnErr result (Rose (S.faults sink.old) (S.faults sink.new)) }
+    ensures { Writes (S.view sink.old) (S.view sink.new) bytes.now result }
 {
     let mut done = 0;
     while done < bytes.len() {

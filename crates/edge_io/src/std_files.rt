@@ -52,14 +52,14 @@ impl<R: SystemFiles + AllocGlobal> StdFiles<R> {
         }
     }
 
-    /// How many reads failed. It stands still at its last value.
+    /// How many reads failed. It stays at its greatest value.
     pub fn faults(&self) -> u64
         ensures { result ≡ self.now.faults }
     {
         self.faults
     }
 
-    /// How many reads named no file. It stands still at its last value.
+    /// How many reads named no file. It stays at its greatest value.
     pub fn misses(&self) -> u64
         ensures { result ≡ self.now.misses }
     {
@@ -98,11 +98,7 @@ impl<R: SystemFiles + AllocGlobal> StdFiles<R> {
 }
 
 impl<R: SystemFiles + AllocGlobal> Files for StdFiles<R> {
-    ghost contents = { λ _. None };
-
-    ghost faults = { λ s. s.faults };
-
-    ghost misses = { λ s. s.misses };
+    ghost view = { λ s. record { contents = None; faults = s.faults; misses = s.misses } };
 
     /// A path that leads through a file to nowhere is missing, as one that is not there. Any other error has failed.
     fn read_at(&mut self, name: &str, at: u64, buf: &mut [u8]) -> Result<usize, FileFault> {

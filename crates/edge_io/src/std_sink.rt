@@ -22,7 +22,7 @@ impl<W: Write> StdSink<W> {
         StdSink { to, faults: 0 }
     }
 
-    /// How many writes failed. It stands still at its last value.
+    /// How many writes failed. It stays at its greatest value.
     pub fn faults(&self) -> u64
         ensures { result ≡ self.now.faults }
     {
@@ -31,9 +31,7 @@ impl<W: Write> StdSink<W> {
 }
 
 impl<W: Write> Sink for StdSink<W> {
-    ghost written = { λ _. None };
-
-    ghost faults = { λ s. s.faults };
+    ghost view = { λ s. record { written = None; faults = s.faults } };
 
     /// Makes one write. One that takes no byte of a piece that isn't empty, or is interrupted, has failed.
     fn write(&mut self, piece: &[u8]) -> Result<usize, Failed> {

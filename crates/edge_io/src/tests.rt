@@ -102,6 +102,22 @@ fn writes_all_bytes(rt: HostRuntime) -> Result<(), Fail> {
 }
 
 #[test]
+fn never_fails_where_it_is_quiet(rt: HostRuntime) -> Result<(), Fail> {
+    let alloc = rt.alloc();
+    let mut named = Vec::new(alloc);
+    named.push((String::from_str(alloc, "name")?, b"text".to_vec(alloc)?))?;
+    let mut from = QuietFiles::new(named);
+    let whole = read_all(alloc, &mut from, "name", 4);
+    assert!(rt; whole.is_ok_and(|whole| whole.as_slice() == b"text".as_slice()));
+    let fault = read_all(alloc, &mut from, "other", 4).err();
+    assert_eq!(rt; fault, Some(ReadFault::Missing));
+    let mut sink = QuietSink::new(alloc, 3)?;
+    assert_eq!(rt; write_all(&mut sink, b"hello"), Ok(()));
+    assert_eq!(rt; sink.bytes(), b"hel".as_slice());
+    Ok(())
+}
+
+#[test]
 fn reads_the_systems_files(rt: HostRuntime) -> Result<(), Fail> {
     let alloc = rt.alloc();
     let folder = env::temp_dir(&rt)?;

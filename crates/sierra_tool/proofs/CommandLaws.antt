@@ -1,5 +1,5 @@
--- Four words.
-use Rattle.std.proofs.Common.{◌≡◌, Bool, true, false, not, refl, ◌<◌, ◌≤◌, List, [], ◌∷◌, length, get_or, arith}
+-- Four arguments.
+use Rattle.std.proofs.Common.{◌≡◌, ◌<◌, ◌≤◌, List, [], ◌∷◌, length, get_or, arith}
 
 -- a list of four is its four items
 pub four : {A : Type 0} (xs : List A) (a b c d : A) → 4 ≤ length xs → length xs < 5 → a ≡ get_or xs 0 a → b ≡ get_or xs 1 b → c ≡ get_or xs 2 c → d ≡ get_or xs 3 d → xs ≡ a ∷ b ∷ c ∷ d ∷ []
@@ -9,8 +9,3 @@ four (w ∷ x ∷ []) a b c d least most p q r s = absurd (omega arith)
 four (w ∷ x ∷ y ∷ []) a b c d least most p q r s = absurd (omega arith)
 four (w ∷ x ∷ y ∷ z ∷ []) a b c d least most p q r s = cc
 four (v ∷ w ∷ x ∷ y ∷ z ∷ xs) a b c d least most p q r s = absurd (omega arith)
-
--- a test whose negation fails holds
-pub true_from_not : (b : Bool) → false ≡ not b → b ≡ true
-true_from_not true e = refl
-true_from_not false e = absurd cc

@@ -1,8 +1,8 @@
 pub mod AcceptedLaws
-pub mod CheckLaws
+pub mod Causes
 pub mod CommandLaws
+pub mod Exact
 pub mod FormLaws
-pub mod ExactStatus
-pub mod OneAnswer
 pub mod Soundness
-pub mod OutputLaws
+pub mod Stages
+pub mod VerdictLaws

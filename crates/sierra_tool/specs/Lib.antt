@@ -1,9 +1,11 @@
 pub mod Accepted
-pub mod Answers
+pub mod Causes
 pub mod Command
 pub mod Exact
 pub mod Forms
 pub mod Meaning
-pub mod Refused
+pub mod Runs
 pub mod Scan
+pub mod Stages
+pub mod Tool
 pub mod Values

@@ -1,155 +1,94 @@
-//! The work of a check, in its order: the program, the input, its gas, the run file, the run. What comes in is the
-//! names of three files, what goes out is the first refusal that is met, or the verdict.
+//! The work of a check, in its order: the program, the input, its gas, the run file, the run. The names of three files
+//! come in, and the first refusal that is met goes out, or the verdict.
 
-ghost use Rattle.std.specs.Prelude.{◌≡◌, ◌≤◌, IfOk, OnErr, length};
-ghost use Rattle.std.specs.FinMap.{get};
-ghost use Rattle.edge_io.specs.Counts.{Rose};
-ghost use Rattle.edge_io.specs.Files.{ForFile};
-ghost use Rattle.sierra_tool.specs.Answers.{Answers, OfProgram, OfInput, OfRunBytes, OfRun, IsAccepted, IsVerdict, HasCause};
-ghost use Rattle.sierra_tool.specs.Command.{names_of};
-ghost use Rattle.sierra_tool.specs.Meaning.{entry_gas};
-ghost use Rattle.sierra_tool.specs.Refused.{answer_of_fault};
+ghost use Rattle.std.specs.Prelude.{Some};
+ghost use Rattle.sierra_tool.specs.Causes.{Holds, IsRunFile};
+ghost use Rattle.sierra_tool.specs.Forms.{IsProgram, IsInput};
+ghost use Rattle.sierra_tool.specs.Stages.{ReadsSource, IsFound, IsUnfit, IsRefused, NoProgram, NoInput, NoRun, Works};
+ghost use Rattle.sierra_tool.specs.declared.command.Command.TheVariants as commands;
 
-use crate::accepted::is_accepted;
-use crate::answer::Answer;
+use crate::answer::{Answer, Stop};
 use crate::command::{Check, Source};
 use crate::input::{Input, read_input};
+use crate::judge::{ENTRY_GAS, of_run};
 use crate::program::{Program, read_program};
-use crate::verdict::{Outcome, Verdict};
 use edge_io::{Files, ReadFault, read_all};
-use felt64::Felt;
 use run_file::{FileRefusal, Run};
-use std::alloc::{AllocError, Global};
-
-/// No file is read beyond this number of bytes.
-const FILE_LIMIT: u64 = 1 << 24;
-
-/// The gas that a run of the form needs, 100 for each of its three steps.
-const ENTRY_GAS: u32 = 300;
+use std::alloc::Global;
 
 impl Check<'_> {
     /// Reads the three files, each where what came before it isn't refused, and judges the run.
-    pub fn answer<F: Files>(&self, alloc: Global, files: &mut F) -> Result<Answer, AllocError>
-        ensures same { F.contents files.new ≡ F.contents files.old }
-        ensures faults_kept { F.faults files.old ≤ F.faults files.new }
-        ensures misses_kept { F.misses files.old ≤ F.misses files.new }
-        ensures answer { IfOk result (Answers (F.contents files.old) (names_of self.now)) }
-        ensures cause { IfOk result (HasCause (Rose (F.misses files.old) (F.misses files.new)) (Rose (F.faults files.old) (F.faults files.new))) }
-        ensures memory { OnErr result (ForFile (F.contents files.old) self.now.program.now ⊥ (λ there. Unit {0})) }
+    pub fn answer<F: Files>(&self, alloc: Global, files: &mut F) -> Result<Answer, Stop>
+        ensures { Works (F.view files.old) (F.view files.new) (Some (commands.Check self.now)) result }
     {
-        match read_all(alloc, files, self.program, FILE_LIMIT) {
-            Ok(text) => match read_program(&text) {
-                Some(program) => self.of_program(alloc, files, &program),
-                None => Ok(Answer::NotBuilt),
-            },
-            Err(fault) => refused(Source::Program, fault),
-        }
-    }
-
-    /// What a program that was read leads to.
-    fn of_program<F: Files>(
-        &self,
-        alloc: Global,
-        files: &mut F,
-        program: &Program,
-    ) -> Result<Answer, AllocError>
-        ensures same { F.contents files.new ≡ F.contents files.old }
-        ensures faults_kept { F.faults files.old ≤ F.faults files.new }
-        ensures misses_kept { F.misses files.old ≤ F.misses files.new }
-        ensures answer { IfOk result (OfProgram (F.contents files.old) (names_of self.now) program.now) }
-        ensures cause { IfOk result (HasCause (Rose (F.misses files.old) (F.misses files.new)) (Rose (F.faults files.old) (F.faults files.new))) }
-    {
-        match read_all(alloc, files, self.input, FILE_LIMIT) {
-            Ok(text) => match read_input(&text) {
-                Some(input) => self.of_input(alloc, files, program, &input),
-                None => Ok(Answer::NotBuilt),
-            },
-            Err(fault) => refused(Source::Input, fault),
-        }
-    }
-
-    /// What an input that was read leads to.
-    fn of_input<F: Files>(
-        &self,
-        alloc: Global,
-        files: &mut F,
-        program: &Program,
-        input: &Input,
-    ) -> Result<Answer, AllocError>
-        ensures same { F.contents files.new ≡ F.contents files.old }
-        ensures faults_kept { F.faults files.old ≤ F.faults files.new }
-        ensures misses_kept { F.misses files.old ≤ F.misses files.new }
-        ensures answer { IfOk result (OfInput (F.contents files.old) (names_of self.now) program.now input.now) }
-        ensures cause { IfOk result (HasCause (Rose (F.misses files.old) (F.misses files.new)) (Rose (F.faults files.old) (F.faults files.new))) }
-    {
+        let program = program(alloc, files, self.program)?;
+        let input = input(alloc, files, self.input)?;
         if input.gas < ENTRY_GAS {
-            return Ok(Answer::NotEnoughGas(input.gas));
+            return Err(Stop::Refused(Answer::NotEnoughGas {
+                need: u64::from(ENTRY_GAS),
+                given: u64::from(input.gas),
+            }));
         }
-        match read_all(alloc, files, self.run, FILE_LIMIT) {
-            Ok(bytes) => of_run_bytes(alloc, program, input, &bytes),
-            Err(fault) => refused(Source::Run, fault),
-        }
+        let run = run(alloc, files, self.run)?;
+        Ok(of_run(&program, &input, &run))
     }
 }
 
-/// The refusal that a file which was not read whole leads to.
-fn refused(source: Source, fault: ReadFault) -> Result<Answer, AllocError>
-    ensures { result ≡ answer_of_fault source fault }
-{
-    match fault {
-        ReadFault::Missing => Ok(Answer::Missing(source)),
-        ReadFault::Failed => Ok(Answer::ReadFault(source)),
-        ReadFault::TooLong => Ok(Answer::TooLong(source)),
-        ReadFault::Memory => Err(AllocError),
-    }
-}
-
-/// What the bytes of a run file lead to.
-fn of_run_bytes(
+/// The bytes of a source.
+fn bytes<F: Files>(
     alloc: Global,
-    program: &Program,
-    input: &Input,
-    bytes: &[u8],
-) -> Result<Answer, AllocError>
-    requires { entry_gas ≤ input.now.gas }
-    ensures { IfOk result (OfRunBytes program.now input.now bytes.now) }
+    files: &mut F,
+    source: Source,
+    name: &str,
+) -> Result<Vec<u8>, Stop>
+    ensures { ReadsSource (F.view files.old) (F.view files.new) name.now
+        (λ given bytes. IsFound source given bytes.items) (IsUnfit source) result }
 {
-    match run_file::read(alloc, bytes) {
-        Ok(run) => Ok(of_run(program, input, &run)),
-        Err(FileRefusal::Memory) => Err(AllocError),
-        Err(_) => Ok(Answer::RunRefused),
+    match read_all(alloc, files, name, source.limit()) {
+        Ok(bytes) => Ok(bytes),
+        Err(ReadFault::Missing) => Err(Stop::Refused(Answer::Missing(source))),
+        Err(ReadFault::Failed) => Err(Stop::Refused(Answer::ReadFault(source))),
+        Err(ReadFault::TooLong) => Err(Stop::Refused(Answer::TooLong(source))),
+        Err(ReadFault::Memory) => Err(Stop::OutOfMemory),
     }
 }
 
-/// What a run leads to: its verdict where it is accepted.
-fn of_run(program: &Program, input: &Input, run: &Run) -> Answer
-    requires { entry_gas ≤ input.now.gas }
-    ensures { OfRun program.now input.now run.now result }
+/// The program of a file.
+fn program<F: Files>(alloc: Global, files: &mut F, name: &str) -> Result<Program, Stop>
+    ensures { ReadsSource (F.view files.old) (F.view files.new) name.now
+        (λ given program. Holds Source.Program given (λ text. IsProgram text program))
+        (IsRefused Source.Program NoProgram) result }
 {
-    if is_accepted(program, input, run.rc, &run.memory, run.states.as_slice()) {
-        Answer::Judged(verdict(program, input, run))
-    } else {
-        Answer::RunRejected
+    let text = bytes(alloc, files, Source::Program, name)?;
+    match read_program(&text) {
+        Some(program) => Ok(program),
+        None => Err(Stop::Refused(Answer::NotBuilt)),
     }
 }
 
-/// The verdict that an accepted run shows.
-fn verdict(program: &Program, input: &Input, run: &Run) -> Verdict
-    requires accepted { IsAccepted program.now input.now run.now }
-    requires gas { entry_gas ≤ input.now.gas }
-    ensures { IsVerdict program.now input.now run.now result }
+/// The input of a file.
+fn input<F: Files>(alloc: Global, files: &mut F, name: &str) -> Result<Input, Stop>
+    ensures { ReadsSource (F.view files.old) (F.view files.new) name.now
+        (λ given input. Holds Source.Input given (λ text. IsInput text input))
+        (IsRefused Source.Input NoInput) result }
 {
-    let states = run.states.as_slice();
-    let steps = states.len() - 1;
-    let end = states[steps].ap.sub(Felt::from(1));
-    Verdict {
-        outcome: Outcome {
-            panic: false,
-            value: run.memory.get(end).unwrap(),
-            gas_left: u64::from(input.gas - ENTRY_GAS),
-            gas_used: u64::from(ENTRY_GAS),
-        },
-        steps: steps as u64,
-        checks: 0,
+    let text = bytes(alloc, files, Source::Input, name)?;
+    match read_input(&text) {
+        Some(input) => Ok(input),
+        None => Err(Stop::Refused(Answer::NotBuilt)),
+    }
+}
+
+/// The run of a file.
+fn run<F: Files>(alloc: Global, files: &mut F, name: &str) -> Result<Run, Stop>
+    ensures { ReadsSource (F.view files.old) (F.view files.new) name.now
+        (λ given run. Holds Source.Run given (λ bytes. IsRunFile bytes run))
+        (IsRefused Source.Run NoRun) result }
+{
+    let bytes = bytes(alloc, files, Source::Run, name)?;
+    match run_file::read(alloc, &bytes) {
+        Ok(run) => Ok(run),
+        Err(FileRefusal::Memory) => Err(Stop::OutOfMemory),
+        Err(refusal) => Err(Stop::Refused(Answer::RunRefused(refusal))),
     }
 }

@@ -1,18 +1,29 @@
-//! The words of a command: words come in from the top call, and the names of a check's three files go out.
+//! The commands: arguments come in from the top call, and the command that they are goes out, with the names of its files.
 
-ghost use Rattle.std.specs.Prelude.{◌≡◌, map, MatchOption, string_bytes};
-ghost use Rattle.sierra_tool.specs.Answers.{IsCheck, NoCheck, name_of};
-ghost use Rattle.sierra_tool.specs.Command.{names_of};
+ghost use Rattle.std.specs.Prelude.{◌≡◌, map, option_copied, string_bytes};
+ghost use Rattle.std.specs.Option.{option_map};
+ghost use Rattle.sierra_tool.specs.Command.{Parses, name_of, limit};
 
-/// The three files of a check.
+/// What a command reads, in the order in which every command reads.
 #[derive(Clone, Copy, Debug, PartialEq, Eq)]
 pub enum Source {
     /// The Sierra text.
     Program,
-    /// The gas and the arguments.
+    /// The gas and the arguments of `main`.
     Input,
     /// The run file that somebody made.
     Run,
+}
+
+impl Source {
+    /// How many bytes it may have.
+    pub fn limit(self) -> u64
+        ensures { result ≡ limit self }
+    {
+        match self {
+            Source::Program | Source::Input | Source::Run => 1 << 24,
+        }
+    }
 }
 
 /// The command `check PROGRAM INPUT RUN`, by the names of its files.
@@ -26,34 +37,40 @@ pub struct Check<'a> {
     pub run: &'a str,
 }
 
-impl<'a> Check<'a> {
-    /// The command that the words are, if they are this one.
-    pub fn of(words: &'a [String]) -> Option<Check<'a>>
-        ensures { MatchOption result
-            (NoCheck (map string_bytes words.now))
-            (λ check. IsCheck (map string_bytes words.now) (names_of check)) }
+/// A command, with the names of the files that it reads.
+#[derive(Clone, Copy, Debug, PartialEq, Eq)]
+pub enum Command<'a> {
+    /// `check PROGRAM INPUT RUN`: whether a run is accepted, and what it shows.
+    Check(Check<'a>),
+}
+
+impl<'a> Command<'a> {
+    /// The command that the arguments are, if they are one.
+    pub fn of(arguments: &'a [String]) -> Option<Command<'a>>
+        ensures { Parses (map string_bytes arguments.now) result }
     {
-        let [command, program, input, run] = words else {
-            return None;
-        };
-        if command.as_str() != "check" {
-            return None;
+        match arguments {
+            [word, program, input, run] if word.as_str() == "check" => {
+                Some(Command::Check(Check {
+                    program: program.as_str(),
+                    input: input.as_str(),
+                    run: run.as_str(),
+                }))
+            }
+            _ => None,
         }
-        Some(Check {
-            program: program.as_str(),
-            input: input.as_str(),
-            run: run.as_str(),
-        })
     }
 
-    /// The name of one of its files.
-    pub fn name(&self, source: Source) -> &'a str
-        ensures { result.now ≡ name_of (names_of self.now) source }
+    /// The name of a source's file, for a source that the command reads.
+    pub fn name(&self, source: Source) -> Option<&'a str>
+        ensures { option_map (λ name. name.now) result ≡ name_of (Some self.now) source }
     {
-        match source {
-            Source::Program => self.program,
-            Source::Input => self.input,
-            Source::Run => self.run,
+        match self {
+            Command::Check(check) => match source {
+                Source::Program => Some(check.program),
+                Source::Input => Some(check.input),
+                Source::Run => Some(check.run),
+            },
         }
     }
 }

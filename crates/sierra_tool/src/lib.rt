@@ -1,22 +1,29 @@
-//! The tool, from the words of its command to the bytes that it writes and the status that it ends with.
+//! The tool, from the arguments of its command to the bytes that it writes and the status that it ends with.
 //!
-//! Words, files and a place for the output come in. The program stands on it, and so does everyone who wants a run
+//! Arguments, files and a place for the output come in. The program stands on it, and so does everyone who wants a run
 //! checked without a file system: the files and the output can be any that keep the promises of their traits.
 #![tactic(auto)]
 
 mod accepted;
-pub mod answer;
+mod answer;
 mod check;
-pub mod command;
-pub mod input;
+mod command;
+mod input;
+mod judge;
+mod laws;
 mod output;
-pub mod program;
+mod program;
 mod scan;
-pub mod theorem;
 mod tool;
-pub mod verdict;
+mod verdict;
 
+pub use answer::Answer;
+pub use command::{Check, Command, Source};
+pub use input::Input;
+pub use laws::{accepted_runs_mean, one_answer, some_answer};
+pub use program::Program;
 pub use tool::{Shelf, sierra_tool};
+pub use verdict::{Outcome, Verdict};
 
 #[cfg(test)]
 mod tests;

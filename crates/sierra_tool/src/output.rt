@@ -1,96 +1,124 @@
-//! Writing the answer of a check: an answer comes in from the top call, and a verdict's lines or the one line of a refusal
-//! go out to the sink. It takes no memory.
+//! Writing an answer: an answer comes in from the top call, and its text goes out to the sink in one write: the verdict's
+//! lines, or the one line of a refusal. A missing file's line takes no memory.
 
-ghost use Rattle.std.specs.Prelude.{◌≡◌, ◌≤◌, ◌<◌, ◌^◌, ◌++◌, [], ◌∷◌, OnOk, OnErr, decimal};
-ghost use Rattle.edge_io.specs.Counts.{Rose};
-ghost use Rattle.edge_io.specs.Sinks.{Appends, AppendsFront};
-ghost use Rattle.sierra_tool.specs.Answers.{text_of, outcome_word, verdict_text};
-ghost use Rattle.sierra_tool.specs.Command.{names_of};
+ghost use Rattle.std.specs.Prelude.{◌≡◌, ◌++◌, [], ◌∷◌, Some, IfOk, string_bytes};
+ghost use Rattle.std.specs.Option.{unwrap_or};
+ghost use Rattle.edge_io.specs.Sinks.{Writes};
+ghost use Rattle.sierra_tool.specs.Command.{name_of, value_line, verdict_text, text_of};
+ghost use Rattle.sierra_tool.specs.Stages.{IsWritten};
+ghost use Rattle.sierra_tool.specs.declared.output.Unwritten.TheVariants as unwritten;
 
 use crate::answer::Answer;
-use crate::command::Check;
-use crate::verdict::Verdict;
+use crate::command::{Command, Source};
+use crate::verdict::{Outcome, Verdict};
 use edge_io::{Failed, Sink, write_all};
-use itoa::Buffer;
+use std::alloc::{AllocError, Global};
+use std::fmt;
 
-/// Writes what an answer says.
-pub fn write_answer<S: Sink>(out: &mut S, check: &Check, answer: &Answer) -> Result<(), Failed>
-    ensures faults_kept { S.faults out.old ≤ S.faults out.new }
-    ensures ok { OnOk result (Appends (S.written out.old) (S.written out.new) (text_of (names_of check.now) answer.now)) }
-    ensures front { OnErr result (AppendsFront (S.written out.old) (S.written out.new) (text_of (names_of check.now) answer.now)) }
-    ensures failed { OnErr result (Rose (S.faults out.old) (S.faults out.new)) }
-{
-    match answer {
-        Answer::Judged(verdict) => write_verdict(out, verdict),
-        Answer::Missing(source) => write_line(out, b"missing ", check.name(*source).as_bytes()),
-        Answer::ReadFault(source) => {
-            write_line(out, b"read fault ", check.name(*source).as_bytes())
-        }
-        Answer::TooLong(source) => write_line(out, b"too long ", check.name(*source).as_bytes()),
-        Answer::NotBuilt => write_all(out, b"not built\n"),
-        Answer::NotEnoughGas(given) => {
-            write_number(out, b"need 300 given ", u64::from(*given), b"\n")
-        }
-        Answer::RunRefused | Answer::RunRejected => Ok(()),
+/// Why an answer was not written.
+#[derive(Clone, Copy, Debug, PartialEq, Eq, Drop)]
+pub enum Unwritten {
+    /// A write failed.
+    Failed,
+    /// There was no memory for the text, and nothing was written.
+    OutOfMemory,
+}
+
+impl From<Failed> for Unwritten {
+    ghost from_gives = { λ _ fault. fault ≡ unwritten.Failed };
+
+    fn from(_: Failed) -> Unwritten {
+        Unwritten::Failed
     }
 }
 
-/// Writes the verdict's four lines.
-fn write_verdict<S: Sink>(out: &mut S, verdict: &Verdict) -> Result<(), Failed>
-    ensures faults_kept { S.faults out.old ≤ S.faults out.new }
-    ensures ok { OnOk result (Appends (S.written out.old) (S.written out.new) (verdict_text verdict.now)) }
-    ensures front { OnErr result (AppendsFront (S.written out.old) (S.written out.new) (verdict_text verdict.now)) }
-    ensures failed { OnErr result (Rose (S.faults out.old) (S.faults out.new)) }
-{
-    let outcome = &verdict.outcome;
-    write_number(
-        out,
-        word_of(outcome.panic),
-        outcome.value.value(),
-        b"\ngas used ",
-    )?;
-    write_number(out, b"", outcome.gas_used, b"\nsteps ")?;
-    write_number(out, b"", verdict.steps, b"\nchecks ")?;
-    write_number(out, b"", verdict.checks, b"\n")
+impl From<AllocError> for Unwritten {
+    ghost from_gives = { λ _ fault. fault ≡ unwritten.OutOfMemory };
+
+    fn from(_: AllocError) -> Unwritten {
+        Unwritten::OutOfMemory
+    }
 }
 
-/// The word before an outcome's value.
-fn word_of(panic: bool) -> &'static [u8]
-    ensures { result.now ≡ outcome_word panic }
-{
-    if panic { b"panic " } else { b"value " }
+/// The line of the values.
+impl fmt::Display for Outcome {
+    ghost output = { λ outcome. Some (value_line outcome) };
+
+    fn fmt<W: fmt::Write>(&self, f: &mut fmt::Formatter<W>) -> fmt::Result {
+        let word = if self.panic { "panic" } else { "value" };
+        let value = self.value.value();
+        write!(f, "{word} {value}\n")
+    }
 }
 
-/// Writes a word, a text and the end of the line.
-fn write_line<S: Sink>(out: &mut S, word: &[u8], text: &[u8]) -> Result<(), Failed>
-    ensures faults_kept { S.faults out.old ≤ S.faults out.new }
-    ensures ok { OnOk result (Appends (S.written out.old) (S.written out.new) (word.now ++ (text.now ++ 10 ∷ []))) }
-    ensures front { OnErr result (AppendsFront (S.written out.old) (S.written out.new) (word.now ++ (text.now ++ 10 ∷ []))) }
-    ensures failed { OnErr result (Rose (S.faults out.old) (S.faults out.new)) }
+/// The four lines.
+impl fmt::Display for Verdict {
+    ghost output = { λ verdict. Some (verdict_text verdict) };
+
+    fn fmt<W: fmt::Write>(&self, f: &mut fmt::Formatter<W>) -> fmt::Result {
+        let outcome = &self.outcome;
+        let gas = self.outcome.gas_used;
+        let steps = self.steps;
+        let checks = self.checks;
+        write!(
+            f,
+            "{outcome}gas used {gas}\nsteps {steps}\nchecks {checks}\n"
+        )
+    }
+}
+
+/// Writes what an answer says.
+pub fn write_answer<S: Sink>(
+    alloc: Global,
+    out: &mut S,
+    command: &Command,
+    answer: &Answer,
+) -> Result<(), Unwritten>
+    ensures { IsWritten (S.view out.old) (S.view out.new) (Some command.now) answer.now result }
 {
-    write_both(out, word, text)?;
+    if let Answer::Missing(source) = answer {
+        write_line(out, b"missing ", name(command, *source).as_bytes())?;
+        return Ok(());
+    }
+    let text = text(alloc, command, answer)?;
+    write_all(out, text.as_bytes())?;
+    Ok(())
+}
+
+/// The text of an answer.
+fn text(alloc: Global, command: &Command, answer: &Answer) -> Result<String, AllocError>
+    ensures { IfOk result (λ text. string_bytes text ≡ text_of (Some command.now) answer.now) }
+{
+    match answer {
+        Answer::Judged(verdict) => verdict.to_string(alloc),
+        Answer::Missing(source) => line(alloc, "missing ", name(command, *source)),
+        Answer::ReadFault(source) => line(alloc, "read fault ", name(command, *source)),
+        Answer::TooLong(source) => line(alloc, "too long ", name(command, *source)),
+        Answer::NotBuilt => String::from_str(alloc, "not built\n"),
+        Answer::NotEnoughGas { need, given } => format!(in alloc; "need {need} given {given}\n"),
+        Answer::RunRefused(_) | Answer::RunRejected => Ok(String::new(alloc)),
+    }
+}
+
+/// The name of a source's file, which is empty for a source that the command doesn't read.
+fn name<'a>(command: &Command<'a>, source: Source) -> &'a str
+    ensures { result.now ≡ unwrap_or (name_of (Some command.now) source) [] }
+{
+    command.name(source).unwrap_or("")
+}
+
+/// A line of a word and a name.
+fn line(alloc: Global, word: &str, name: &str) -> Result<String, AllocError>
+    ensures { IfOk result (λ line. string_bytes line ≡ word.now ++ (name.now ++ 10 ∷ [])) }
+{
+    format!(in alloc; "{word}{name}\n")
+}
+
+/// Writes a line of a word and a name, without memory.
+fn write_line<S: Sink>(out: &mut S, word: &[u8], name: &[u8]) -> Result<(), Failed>
+    ensures { Writes (S.view out.old) (S.view out.new) (word.now ++ (name.now ++ 10 ∷ [])) result }
+{
+    write_all(out, word)?;
+    write_all(out, name)?;
     write_all(out, b"\n")
-}
-
-/// Writes a word, a number in decimal digits and what ends it.
-fn write_number<S: Sink>(out: &mut S, word: &[u8], number: u64, end: &[u8]) -> Result<(), Failed>
-    ensures faults_kept { S.faults out.old ≤ S.faults out.new }
-    ensures ok { OnOk result (Appends (S.written out.old) (S.written out.new) (word.now ++ (decimal number ++ end.now))) }
-    ensures front { OnErr result (AppendsFront (S.written out.old) (S.written out.new) (word.now ++ (decimal number ++ end.now))) }
-    ensures failed { OnErr result (Rose (S.faults out.old) (S.faults out.new)) }
-{
-    let mut buffer = Buffer::new();
-    write_both(out, word, buffer.format(number).as_bytes())?;
-    write_all(out, end)
-}
-
-/// Writes two pieces, one after the other.
-fn write_both<S: Sink>(out: &mut S, first: &[u8], second: &[u8]) -> Result<(), Failed>
-    ensures faults_kept { S.faults out.old ≤ S.faults out.new }
-    ensures ok { OnOk result (Appends (S.written out.old) (S.written out.new) (first.now ++ second.now)) }
-    ensures front { OnErr result (AppendsFront (S.written out.old) (S.written out.new) (first.now ++ second.now)) }
-    ensures failed { OnErr result (Rose (S.faults out.old) (S.faults out.new)) }
-{
-    write_all(out, first)?;
-    write_all(out, second)
 }

@@ -1,14 +1,11 @@
 //! The tool over files and a sink in memory, at the run that adds 7 to 5 and at what lies near to it.
 
 use crate::{Shelf, sierra_tool};
-use edge_io::{MemFiles, MemSink};
+use edge_io::{MemFiles, MemSink, QuietFiles, QuietSink};
 use std::alloc::{AllocError, Global};
+use std::test::Fail;
 
-mod answers;
-mod faults;
-mod runs;
-
-/// The words of a check.
+/// The arguments of a check.
 const CHECK: [&str; 4] = ["check", "p", "i", "r"];
 
 /// The names of its files: program, input and run.
@@ -30,6 +27,18 @@ const INPUT: &[u8] = b"gas 300\n5\n";
 
 /// The run's verdict.
 const VERDICT: &[u8] = b"value 12\ngas used 300\nsteps 3\nchecks 0\n";
+
+/// The gas above all others, and the argument to which the program adds up to the order.
+const WRAPPING_INPUT: &[u8] = b"gas 4294967295\n18446744069414584314\n";
+
+/// The cells in which the run on it differs.
+const WRAPPING_CELLS: [(u64, Option<u64>); 2] = [
+    (4294967296, Some(18446744069414584314)),
+    (4294967299, Some(0)),
+];
+
+/// Its verdict.
+const WRAPPING_VERDICT: &[u8] = b"value 0\ngas used 300\nsteps 3\nchecks 0\n";
 
 /// The address from which on the range checks have their cells.
 const RC: u64 = 8589934592;
@@ -107,35 +116,160 @@ fn altered(alloc: Global, bytes: &[u8], place: usize, by: &[u8]) -> Result<Vec<u
     Ok(all)
 }
 
-/// The words as the tool takes them.
-fn owned(alloc: Global, words: &[&str]) -> Result<Vec<String>, AllocError> {
+/// The arguments as the tool takes them.
+fn owned(alloc: Global, arguments: &[&str]) -> Result<Vec<String>, AllocError> {
     let mut all = Vec::new(alloc);
-    for word in words {
-        all.push(String::from_str(alloc, word)?)?;
+    for argument in arguments {
+        all.push(String::from_str(alloc, argument)?)?;
     }
     Ok(all)
 }
 
-/// The files under their names, without those that aren't given. The read calls with these numbers fail.
-fn named(alloc: Global, given: [Option<&[u8]>; 3], fails: &[u64]) -> Result<MemFiles, AllocError> {
+/// The files under their names, without those that aren't given.
+fn named(alloc: Global, given: [Option<&[u8]>; 3]) -> Result<Vec<(String, Vec<u8>)>, AllocError> {
     let mut files = Vec::new(alloc);
     for (name, bytes) in NAMES.iter().zip(given) {
         if let Some(bytes) = bytes {
             files.push((String::from_str(alloc, name)?, bytes.to_vec(alloc)?))?;
         }
     }
-    Ok(MemFiles::new(files, fails.to_vec(alloc)?))
+    Ok(files)
 }
 
 /// The status and the output of a call where nothing fails.
 fn call(
     alloc: Global,
-    words: &[&str],
+    arguments: &[&str],
     given: [Option<&[u8]>; 3],
 ) -> Result<(u8, Vec<u8>), AllocError> {
-    let words = owned(alloc, words)?;
-    let mut files = named(alloc, given, &[])?;
-    let mut out = MemSink::new(alloc, 64, Vec::new(alloc), 64)?;
-    let status = sierra_tool(alloc, &words, &mut files, &mut out, Shelf {});
+    let arguments = owned(alloc, arguments)?;
+    let mut files = QuietFiles::new(named(alloc, given)?);
+    let mut out = QuietSink::new(alloc, 64)?;
+    let status = sierra_tool(alloc, &arguments, &mut files, &mut out, Shelf {});
     Ok((status, out.bytes().to_vec(alloc)?))
+}
+
+#[test]
+fn answers_each_check(rt: HostRuntime) -> Result<(), Fail> {
+    let alloc = rt.alloc();
+    let own = run_file(alloc, &[], &STATES)?;
+    let wrapping = run_file(alloc, &WRAPPING_CELLS, &STATES)?;
+    let other_magic = altered(alloc, &own, 0, b"X")?;
+    let other_result = run_file(alloc, &[(4294967299, Some(13))], &STATES)?;
+    let no_last_state = run_file(alloc, &[], &STATES[..3])?;
+    let two_constants = altered(alloc, PROGRAM, 62, b"8")?;
+    let (program, input, run) = (Some(PROGRAM), Some(INPUT), Some(own.as_slice()));
+    let rows: [([Option<&[u8]>; 3], u8, &[u8]); 13] = [
+        ([program, input, run], 0, VERDICT),
+        (
+            [program, Some(WRAPPING_INPUT), Some(&wrapping)],
+            0,
+            WRAPPING_VERDICT,
+        ),
+        ([None, input, run], 3, b"missing p\n"),
+        ([program, None, run], 3, b"missing i\n"),
+        ([program, input, None], 3, b"missing r\n"),
+        ([Some(&two_constants), None, None], 9, b"not built\n"),
+        ([program, Some(b"gas 300\n05\n"), None], 9, b"not built\n"),
+        (
+            [program, Some(b"gas 299\n5\n"), None],
+            13,
+            b"need 300 given 299\n",
+        ),
+        ([program, input, Some(b"")], 14, b""),
+        ([program, input, Some(&other_magic)], 14, b""),
+        ([program, input, own.get(..303)], 14, b""),
+        ([program, input, Some(&other_result)], 15, b""),
+        ([program, input, Some(&no_last_state)], 15, b""),
+    ];
+    for (given, status, output) in rows {
+        let (answered, written) = call(alloc, &CHECK, given)?;
+        assert_eq!(rt; answered, status, "{output:?}");
+        assert_eq!(rt; written.as_slice(), output);
+    }
+    Ok(())
+}
+
+#[test]
+fn answers_what_is_no_command(rt: HostRuntime) -> Result<(), Fail> {
+    let alloc = rt.alloc();
+    let rows: [&[&str]; 5] = [
+        &[],
+        &[""],
+        &["check", "p", "i"],
+        &["check", "p", "i", "r", "x"],
+        &["run", "p", "i", "r"],
+    ];
+    for arguments in rows {
+        let (answered, written) = call(alloc, arguments, [None; 3])?;
+        assert_eq!(rt; answered, 9, "{arguments:?}");
+        assert_eq!(rt; written.as_slice(), b"not built\n".as_slice());
+    }
+    Ok(())
+}
+
+#[test]
+fn answers_a_program_that_is_too_long(rt: HostRuntime) -> Result<(), Fail> {
+    let alloc = rt.alloc();
+    for (size, status, output) in [
+        (1 << 24, 9, b"not built\n".as_slice()),
+        ((1 << 24) + 1, 7, b"too long p\n".as_slice()),
+    ] {
+        let zeros = vec![in alloc; 0; size]?;
+        let (answered, written) = call(alloc, &CHECK, [Some(&zeros), None, None])?;
+        assert_eq!(rt; answered, status, "{size}");
+        assert_eq!(rt; written.as_slice(), output, "{size}");
+    }
+    Ok(())
+}
+
+#[test]
+fn tells_each_read_that_fails(rt: HostRuntime) -> Result<(), Fail> {
+    let alloc = rt.alloc();
+    let run = run_file(alloc, &[], &STATES)?;
+    let arguments = owned(alloc, &CHECK)?;
+    for (number, status, output) in [
+        (0, 4, b"read fault p\n".as_slice()),
+        (1, 4, b"read fault p\n".as_slice()),
+        (2, 4, b"read fault i\n".as_slice()),
+        (3, 4, b"read fault i\n".as_slice()),
+        (4, 4, b"read fault r\n".as_slice()),
+        (5, 4, b"read fault r\n".as_slice()),
+        (6, 0, VERDICT),
+    ] {
+        let named = named(alloc, [Some(PROGRAM), Some(INPUT), Some(&run)])?;
+        let mut files = MemFiles::new(named, [number].to_vec(alloc)?);
+        let mut out = QuietSink::new(alloc, 64)?;
+        let answered = sierra_tool(alloc, &arguments, &mut files, &mut out, Shelf {});
+        assert_eq!(rt;
+            (answered, files.calls()),
+            (status, (number + 1).min(6)),
+            "{number}"
+        );
+        assert_eq!(rt; out.bytes(), output, "{number}");
+    }
+    Ok(())
+}
+
+#[test]
+fn tells_each_write_that_fails(rt: HostRuntime) -> Result<(), Fail> {
+    let alloc = rt.alloc();
+    let run = run_file(alloc, &[], &STATES)?;
+    let arguments = owned(alloc, &CHECK)?;
+    let all = VERDICT.len();
+    for number in 0..=all {
+        let named = named(alloc, [Some(PROGRAM), Some(INPUT), Some(&run)])?;
+        let mut files = QuietFiles::new(named);
+        let fails = [number as u64].to_vec(alloc)?;
+        let mut out = MemSink::new(alloc, 1, fails, 64)?;
+        let status = sierra_tool(alloc, &arguments, &mut files, &mut out, Shelf {});
+        let (want, calls) = if number < all {
+            (5, number + 1)
+        } else {
+            (0, all)
+        };
+        assert_eq!(rt; (status, out.calls()), (want, calls as u64), "{number}");
+        assert_eq!(rt; Some(out.bytes()), VERDICT.get(..number), "{number}");
+    }
+    Ok(())
 }

@@ -5,6 +5,8 @@ use Rattle.edge_io.proofs.sinks.write_all.Goals as goal
 pub loop-done-preserved : goal.loop-done-preserved
 loop-done-preserved g c = (
   le_length-of_rest _ _ _ c.loop-done.invariant.0 c.in_ok-taken.ensures.within,
-  omega (arith, c.in_ok-taken.ensures.faults_kept),
-  Appends-take-more _ _ _ _ _ _ c.loop-done.invariant.2 c.in_ok-taken.ensures.appended,
+  record {
+    appended = Appends-take-more _ _ _ _ _ _ c.loop-done.invariant.1.appended c.in_ok-taken.ensures.writes.appended;
+    kept = omega (arith, c.in_ok-taken.ensures.writes.kept, c.loop-done.invariant.1.kept);
+  },
 )

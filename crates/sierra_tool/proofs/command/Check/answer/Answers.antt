@@ -1,38 +1,39 @@
-use Rattle.std.proofs.Common.{inl, inr, refl, sym, subst}
-use Rattle.std.specs.Prelude.{IfOk}
-use Rattle.sierra_tool.specs.Answers.{Answers, OfProgram, OfProgramText}
-use Rattle.sierra_tool.specs.Command.{names_of}
-use Rattle.sierra_tool.specs.Forms.{IsProgram}
-use Rattle.sierra_tool.specs.declared.answer.Answer.TheVariants as answers
-use Rattle.sierra_tool.specs.declared.command.Source.TheVariants as sources
-use Rattle.sierra_tool.proofs.CheckLaws.{leads_on, leads_refused, on_ok, on_refusal, never}
+use Rattle.std.proofs.Common.{arith, Some}
+use Rattle.sierra_tool.specs.Stages.{Works}
+use Rattle.sierra_tool.specs.declared.command.Command.TheVariants as commands
+use Rattle.sierra_tool.proofs.Stages.{passed_on, stops_at_program, stops_at_input, stops_at_gas, stops_at_run, ends}
 use Rattle.sierra_tool.proofs.command.Check.answer.Goals as goal
 
--- the program that was read leads on
-pub returns-in-Some-clause-answer : goal.returns-in-Some-clause-answer
-returns-in-Some-clause-answer g c =
-    let told = g.F.Files.contents c.args.files.now in
-    let names = names_of c.args.self.now in
-    let program = c.in-Some.program in
-    let is = subst (λ text. IsProgram text program) c.deref.ensures.value ((c.in-Some.ensures program).0 refl) in
-    on_ok (OfProgram told names program) (Answers told names)
-    (λ answer of_program. leads_on told names.program sources.Program c.in-Ok.text (OfProgramText told names) answer c.in-Ok.ensures.told c.in-Ok.ensures.within (inr (program, is, of_program)))
-    c.of_program.result
-    (subst (λ files. IfOk c.of_program.result (OfProgram files names program)) c.in-Ok.ensures.same c.of_program.ensures.answer)
+pub returns-in_err-program : goal.returns-in_err-program
+returns-in_err-program g c =
+    let files = g.F.Files.view in
+    let check = c.args.self.now in
+    passed_on (Works (files c.args.files.now) (files c.program.new.files) (Some (commands.Check check))) c.in_err-program.field-0.0 c.from_residual.result c.from_residual.ensures.1
+    (stops_at_program check (files c.args.files.now) (files c.program.new.files) c.in_err-program.field-0.0 c.in_err-program.ensures)
 
--- a text that is no program is not built
-pub returns-in-Ok-clause-answer : goal.returns-in-Ok-clause-answer
-returns-in-Ok-clause-answer g c =
-    let told = g.F.Files.contents c.args.files.now in
-    let names = names_of c.args.self.now in
-    leads_on told names.program sources.Program c.in-Ok.text (OfProgramText told names) answers.NotBuilt c.in-Ok.ensures.told c.in-Ok.ensures.within
-    (inl (λ program is. never program ((c.in-None.ensures program).1 (subst (λ text. IsProgram text program) (sym c.deref.ensures.value) is)), refl))
+pub returns-in_err-input : goal.returns-in_err-input
+returns-in_err-input g c =
+    let files = g.F.Files.view in
+    let check = c.args.self.now in
+    passed_on (Works (files c.args.files.now) (files c.input.new.files) (Some (commands.Check check))) c.in_err-input.field-0.0 c.from_residual-in_err-input.result c.from_residual-in_err-input.ensures.1
+    (stops_at_input check (files c.args.files.now) (files c.program.new.files) (files c.input.new.files) c.in_ok-program.program c.in_err-input.field-0.0 c.in_ok-program.ensures c.in_err-input.ensures)
 
--- an program that was not read whole is refused
-pub returns-clause-answer : goal.returns-clause-answer
-returns-clause-answer g c =
-    let told = g.F.Files.contents c.args.files.now in
-    let names = names_of c.args.self.now in
-    on_refusal (Answers told names) sources.Program c.in-Err.fault
-    (λ answer is. leads_refused told names.program sources.Program c.in-Err.fault (OfProgramText told names) answer c.in-Err.ensures.told is)
-    c.refused.result c.refused.ensures
+pub returns-then-input-lt-ENTRY_GAS : goal.returns-then-input-lt-ENTRY_GAS
+returns-then-input-lt-ENTRY_GAS g c =
+    let files = g.F.Files.view in
+    stops_at_gas c.args.self.now (files c.args.files.now) (files c.program.new.files) (files c.input.new.files) c.in_ok-program.program c.in_ok-input.input c.from.result c.from-then-input-lt-ENTRY_GAS.result
+    c.in_ok-program.ensures c.in_ok-input.ensures (omega arith) (omega arith) (omega arith)
+
+pub returns-in_err-run : goal.returns-in_err-run
+returns-in_err-run g c =
+    let files = g.F.Files.view in
+    let check = c.args.self.now in
+    passed_on (Works (files c.args.files.now) (files c.run.new.files) (Some (commands.Check check))) c.in_err-run.field-0.0 c.from_residual-in_err-run.result c.from_residual-in_err-run.ensures.1
+    (stops_at_run check (files c.args.files.now) (files c.program.new.files) (files c.input.new.files) (files c.run.new.files) c.in_ok-program.program c.in_ok-input.input c.in_err-run.field-0.0
+    c.in_ok-program.ensures c.in_ok-input.ensures c.if-input-lt-ENTRY_GAS.false c.in_err-run.ensures)
+
+pub returns : goal.returns
+returns g c =
+    let files = g.F.Files.view in
+    ends c.args.self.now (files c.args.files.now) (files c.program.new.files) (files c.input.new.files) (files c.run.new.files) c.in_ok-program.program c.in_ok-input.input c.in_ok-run.run' c.of_run.result
+    c.in_ok-program.ensures c.in_ok-input.ensures c.if-input-lt-ENTRY_GAS.false c.in_ok-run.ensures c.of_run.ensures

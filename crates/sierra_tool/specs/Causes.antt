@@ -1,0 +1,104 @@
+-- What the sources of a command gave, and which answer that causes.
+use Rattle.std.specs.Prelude.{ℕ, ◌≡◌, ◌<◌, ◌≤◌, ◌⊎◌, List, length, Option, Some, None, Result, Err, MatchOption}
+use Rattle.std.specs.FinMap.{get}
+use Rattle.edge_io.specs.Files.{FileMap}
+use Rattle.run_file.specs.declared.refusal.FileRefusal.{FileRefusal}
+use Rattle.run_file.specs.declared.run.Run.{Run}
+use Rattle.run_file.specs.Reading.{reading}
+use Rattle.run_file.specs.Spelling.{IsRun, spelling}
+use Rattle.sierra_tool.specs.declared.answer.Answer.{Answer}
+use Rattle.sierra_tool.specs.declared.answer.Answer.TheVariants as answers
+use Rattle.sierra_tool.specs.declared.command.Command.{Command}
+use Rattle.sierra_tool.specs.declared.command.Source.{Source}
+use Rattle.sierra_tool.specs.declared.command.Source.TheVariants as sources
+use Rattle.sierra_tool.specs.declared.program.Program.{Program}
+use Rattle.sierra_tool.specs.declared.input.Input.{Input}
+use Rattle.sierra_tool.specs.Command.{name_of, IsRead, limit}
+use Rattle.sierra_tool.specs.Forms.{IsProgram, IsInput}
+use Rattle.sierra_tool.specs.Meaning.{entry_gas}
+use Rattle.sierra_tool.specs.Runs.{IsAccepted, IsVerdict}
+
+-- ---- Readings: what each source gave
+
+-- no file of the name, a read that failed, or the file's bytes
+pub data Reading : Type 0 where
+  absent : Reading
+  unread : Reading
+  found : List ℕ → Reading
+
+abbrev pub Readings : Type 0
+Readings = Source → Reading
+
+-- What a file can give: of a known map what it has there, or, of a file that it has, a failed read; else anything.
+abbrev pub Gives : Option FileMap → List ℕ → Reading → Type 0
+Gives None name given = Unit {0}
+Gives (Some files) name given = MatchOption (get files name) (given ≡ absent) (λ bytes. (given ≡ found bytes) ⊎ (given ≡ unread))
+
+-- what the files can give to a command
+abbrev pub AreReadings : Option FileMap → Option Command → Readings → Type 0
+AreReadings known command readings =
+    (source : Source) → MatchOption (name_of command source) (readings source ≡ absent) (λ name. Gives known name (readings source))
+
+-- ---- What was read
+
+-- the source gave bytes, no more than it may have, and this holds of them
+abbrev pub Holds : Source → Reading → (List ℕ → Type 0) → Type 0
+Holds source given is = (bytes : List ℕ) × (given ≡ found bytes) × (length bytes ≤ limit source) × is bytes
+
+-- it gave more bytes than it may have
+abbrev pub IsTooLong : Source → Reading → Type 0
+IsTooLong source given = (bytes : List ℕ) × (given ≡ found bytes) × (limit source < length bytes)
+
+-- the bytes are a run file, that of this run
+abbrev pub IsRunFile : List ℕ → Run → Type 0
+IsRunFile bytes run = IsRun run × (bytes ≡ spelling run)
+
+abbrev pub HasProgram : Readings → Program → Type 0
+HasProgram readings program = Holds sources.Program (readings sources.Program) (λ text. IsProgram text program)
+
+abbrev pub HasInput : Readings → Program → Input → Type 0
+HasInput readings program input = Holds sources.Input (readings sources.Input) (λ text. IsInput text input)
+
+abbrev pub HasRun : Readings → Run → Type 0
+HasRun readings run = Holds sources.Run (readings sources.Run) (λ bytes. IsRunFile bytes run)
+
+-- a program and an input for it were read, and the input has the gas that a run of the program needs
+pub record CanRun (readings : Readings) (program : Program) (input : Input) : Type 0 where
+  pub program_read : HasProgram readings program
+  pub input_read : HasInput readings program input
+  pub gas : entry_gas ≤ input.gas
+
+-- the command reads this source, and nothing that comes before it is refused
+abbrev pub ComesTo : Command → Readings → Source → Type 0
+ComesTo command readings sources.Program = IsRead command sources.Program
+ComesTo command readings sources.Input = IsRead command sources.Input × (program : Program) × HasProgram readings program
+ComesTo command readings sources.Run =
+    IsRead command sources.Run × (program : Program) × (input : Input) × CanRun readings program input
+
+-- the bytes are no run file, and this is their first refusal in byte order
+abbrev pub IsNoRunFile : List ℕ → FileRefusal → Type 0
+IsNoRunFile bytes refusal = ((run : Run) → IsRunFile bytes run → ⊥) × (reading bytes ≡ Err refusal)
+
+-- ---- Causes
+
+-- What causes each answer to a command, in the order of work. Arguments that are no command are not built.
+abbrev pub Cause : Option Command → Readings → Answer → Type 0
+Cause None readings answer = answer ≡ answers.NotBuilt
+Cause (Some command) readings (answers.Missing source) = ComesTo command readings source × (readings source ≡ absent)
+Cause (Some command) readings (answers.ReadFault source) = ComesTo command readings source × (readings source ≡ unread)
+Cause (Some command) readings (answers.TooLong source) = ComesTo command readings source × IsTooLong source (readings source)
+Cause (Some command) readings answers.NotBuilt =
+    Holds sources.Program (readings sources.Program) (λ text. (program : Program) → IsProgram text program → ⊥)
+    ⊎ ((program : Program) × HasProgram readings program
+    × Holds sources.Input (readings sources.Input) (λ text. (input : Input) → IsInput text input → ⊥))
+Cause (Some command) readings (answers.NotEnoughGas need given) =
+    (program : Program) × (input : Input)
+    × HasProgram readings program × HasInput readings program input × (given < need) × (need ≡ entry_gas) × (given ≡ input.gas)
+Cause (Some command) readings (answers.RunRefused refusal) =
+    ComesTo command readings sources.Run × Holds sources.Run (readings sources.Run) (λ bytes. IsNoRunFile bytes refusal)
+Cause (Some command) readings answers.RunRejected =
+    (program : Program) × (input : Input) × (run : Run)
+    × CanRun readings program input × HasRun readings run × (IsAccepted program input run → ⊥)
+Cause (Some command) readings (answers.Judged verdict) =
+    (program : Program) × (input : Input) × (run : Run)
+    × CanRun readings program input × HasRun readings run × IsAccepted program input run × IsVerdict program input run verdict

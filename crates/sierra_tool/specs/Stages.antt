@@ -1,0 +1,90 @@
+-- What the parts of a command's work give, one source at a time. Only contracts inside this crate cite it.
+use Rattle.std.specs.Prelude.{⊤, ℕ, ◌≡◌, ◌≢◌, ◌⊎◌, ◌≤◌, List, [], length, Option, Result, Ok, Err, MatchResult}
+use Rattle.edge_io.specs.Files.{FilesView, Keeps}
+use Rattle.edge_io.specs.Sinks.{SinkView, WritesAll, WritesPart}
+use Rattle.run_file.specs.declared.refusal.FileRefusal.{FileRefusal}
+use Rattle.run_file.specs.declared.run.Run.{Run}
+use Rattle.sierra_tool.specs.declared.answer.Answer.{Answer}
+use Rattle.sierra_tool.specs.declared.answer.Answer.TheVariants as answers
+use Rattle.sierra_tool.specs.declared.answer.Stop.{Stop}
+use Rattle.sierra_tool.specs.declared.answer.Stop.TheVariants as stops
+use Rattle.sierra_tool.specs.declared.command.Command.{Command}
+use Rattle.sierra_tool.specs.declared.command.Source.{Source}
+use Rattle.sierra_tool.specs.declared.output.Unwritten.{Unwritten}
+use Rattle.sierra_tool.specs.declared.output.Unwritten.TheVariants as unwritten
+use Rattle.sierra_tool.specs.declared.program.Program.{Program}
+use Rattle.sierra_tool.specs.declared.input.Input.{Input}
+use Rattle.sierra_tool.specs.Causes.{Reading, absent, unread, found, Readings, Gives, AreReadings, Holds, IsTooLong, IsNoRunFile, Cause}
+use Rattle.sierra_tool.specs.Forms.{IsProgram, IsInput}
+use Rattle.sierra_tool.specs.Runs.{IsAccepted, IsVerdict}
+use Rattle.sierra_tool.specs.declared.verdict.Verdict.{Verdict}
+use Rattle.sierra_tool.specs.Command.{limit, status_of, text_of}
+use Rattle.sierra_tool.specs.Tool.{IsCounted, Delivers, MayHaveFirst}
+
+-- a stop is a refusal or out of memory
+abbrev pub Stops : (Answer → Type 0) → Type 0 → Stop → Type 0
+Stops refused out_of_memory (stops.Refused answer) = refused answer
+Stops refused out_of_memory stops.OutOfMemory = out_of_memory
+
+-- the refusal of a source that isn't there, wasn't read or is too long
+abbrev pub IsUnfit : Source → Reading → Answer → Type 0
+IsUnfit source given answer =
+    ((given ≡ absent) × (answer ≡ answers.Missing source))
+    ⊎ ((given ≡ unread) × (answer ≡ answers.ReadFault source))
+    ⊎ (IsTooLong source given × (answer ≡ answers.TooLong source))
+
+-- .. or whose bytes have this wrong with them
+abbrev pub IsRefused : Source → (List ℕ → Answer → Type 0) → Reading → Answer → Type 0
+IsRefused source wrong given answer = IsUnfit source given answer ⊎ Holds source given (λ bytes. wrong bytes answer)
+
+abbrev pub NoProgram : List ℕ → Answer → Type 0
+NoProgram text answer = ((program : Program) → IsProgram text program → ⊥) × (answer ≡ answers.NotBuilt)
+
+abbrev pub NoInput : List ℕ → Answer → Type 0
+NoInput text answer = ((input : Input) → IsInput text input → ⊥) × (answer ≡ answers.NotBuilt)
+
+abbrev pub NoRun : List ℕ → Answer → Type 0
+NoRun bytes answer = (refusal : FileRefusal) × IsNoRunFile bytes refusal × (answer ≡ answers.RunRefused refusal)
+
+abbrev pub IsNotMissing : Answer → Type 0
+IsNotMissing answer = (source : Source) → answer ≢ answers.Missing source
+
+-- A part that reads one source: the files gave a reading, and the result comes from it.
+pub record ReadsSource {X : Type 0} (before now : FilesView) (name : List ℕ) (taken : Reading → X → Type 0) (refused : Reading → Answer → Type 0) (result : Result X Stop) : Type 0 where
+  pub keeps : Keeps before now
+  pub reading : Reading
+  pub given : Gives before.contents name reading
+  pub outcome : MatchResult result (taken reading) (Stops (λ answer. refused reading answer × IsCounted before now answer) (reading ≢ absent))
+
+-- the bytes that were found
+abbrev pub IsFound : Source → Reading → List ℕ → Type 0
+IsFound source given bytes = (given ≡ found bytes) × (length bytes ≤ limit source)
+
+-- the readings cause this answer, and its count rose
+abbrev pub IsCaused : FilesView → FilesView → Option Command → Readings → Answer → Type 0
+IsCaused before now command readings answer = Cause command readings answer × IsCounted before now answer
+
+-- A command's work: the files gave readings, and the result comes from them.
+pub record Works (before now : FilesView) (command : Option Command) (result : Result Answer Stop) : Type 0 where
+  pub keeps : Keeps before now
+  pub readings : Readings
+  pub given : AreReadings before.contents command readings
+  pub outcome : MatchResult result (IsCaused before now command readings) (Stops (IsCaused before now command readings) (MayHaveFirst before.contents command))
+
+-- an answer was written, or a write failed, or there was no memory for a text other than a missing file's
+abbrev pub IsWritten : SinkView → SinkView → Option Command → Answer → Result ⊤ Unwritten → Type 0
+IsWritten before now command answer (Ok done) = WritesAll before now (text_of command answer)
+IsWritten before now command answer (Err unwritten.Failed) = WritesPart before now (text_of command answer)
+IsWritten before now command answer (Err unwritten.OutOfMemory) = WritesAll before now [] × IsNotMissing answer
+
+-- the same under the status that the tool ends with
+abbrev pub IsDelivered : SinkView → SinkView → Option Command → Answer → ℕ → Type 0
+IsDelivered before now command answer status =
+    Delivers before now (text_of command answer) (status_of answer) status
+    ⊎ ((status ≡ 6) × WritesAll before now [] × IsNotMissing answer)
+
+-- a run that was read is rejected, or its verdict is answered
+abbrev pub OfRun : Program → Input → Run → Answer → Type 0
+OfRun program input run answer =
+    ((IsAccepted program input run → ⊥) × (answer ≡ answers.RunRejected))
+    ⊎ (IsAccepted program input run × ((verdict : Verdict) × IsVerdict program input run verdict × (answer ≡ answers.Judged verdict)))
