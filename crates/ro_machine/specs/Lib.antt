@@ -1,4 +1,5 @@
 pub mod Cells
+pub mod Readings
 pub mod Step
 pub mod Stepping
 pub mod Word
