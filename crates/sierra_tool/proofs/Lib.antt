@@ -1,9 +1,11 @@
 pub mod AcceptedLaws
+pub mod RejectedLaws
+pub mod Soundness
+pub mod ValueLaws
 pub mod CheckLaws
 pub mod CommandLaws
 pub mod FormLaws
 pub mod ExactStatus
 pub mod OneAnswer
 pub mod ScanLemmas
-pub mod Soundness
 pub mod OutputLaws

@@ -1,6 +1,6 @@
 -- Of told files a check has one answer, where no read failed: each file is told in one way, each text is of one
 -- program or input, each file of one run, and each accepted run has one verdict.
-use Rattle.std.proofs.Common.{◌≡◌, ℕ, ◌<◌, Bool, List, [], ◌∷◌, ◌++◌, length, Option, Some, None, MatchOption, refl, sym, ◌∙◌, ap, subst, inl, inr, ◌⊎◌, arith}
+use Rattle.std.proofs.Common.{◌≡◌, ℕ, ◌<◌, Bool, List, ◌++◌, length, Option, Some, None, MatchOption, refl, sym, ◌∙◌, ap, subst, inl, inr, ◌⊎◌, arith}
 use Rattle.std.specs.Prelude.{decimal}
 use Rattle.std.specs.FinMap.{get}
 use Rattle.std.proofs.lemmas.Bool.{cases_lt}
@@ -8,12 +8,14 @@ use Rattle.edge_io.specs.Files.{FileMap}
 use Rattle.felt64.proofs.DecimalLaws.{decimal_injective, decimal_all_digits}
 use Rattle.run_file.specs.declared.run.Run.{Run}
 use Rattle.run_file.proofs.Runs.{one_run}
-use Rattle.sierra_tool.specs.Answers.{Names, name_of, Reading, absent, unread, found, Reads, LeadsTo, file_limit, IsRunFile, IsVerdict, IsAccepted, OfRun, OfRunBytes, OfInput, OfInputText, OfProgram, OfProgramText, Answers, status_of}
+use Rattle.sierra_tool.specs.Answers.{Names, name_of, Reading, absent, unread, found, Reads, LeadsTo, file_limit, IsRunFile, OfRun, OfRunBytes, OfInput, OfInputText, OfProgram, OfProgramText, Answers, status_of}
 use Rattle.sierra_tool.specs.Exact.{NoReadFault, Holds, IsTooLong, IsMissing, HasProgram, HasInput, HasRun, HasNoRun, CanRun, ComesTo, Cause, HasNoProgram, HasNoInput}
 use Rattle.sierra_tool.specs.Forms.{IsProgram, IsInput}
 use Rattle.sierra_tool.specs.Meaning.{entry_gas}
+use Rattle.sierra_tool.specs.declared.verdict.Value.{Value}
+use Rattle.sierra_tool.proofs.ValueLaws.{all_meant_once}
+use Rattle.sierra_tool.specs.Runs.{IsAccepted, IsVerdict}
 use Rattle.sierra_tool.specs.Scan.{HasDigits}
-use Rattle.sierra_tool.specs.Values.{Value, felt}
 use Rattle.sierra_tool.specs.declared.answer.Answer.{Answer}
 use Rattle.sierra_tool.specs.declared.answer.Answer.TheVariants as answers
 use Rattle.sierra_tool.specs.declared.command.Source.{Source}
@@ -165,14 +167,11 @@ run_of_bytes bytes p q p_is q_is = one_run p q p_is.0 q_is.0 (sym p_is.1 ∙ q_i
 
 -- ---- the verdict
 
-one_value : (m n : ℕ) → ◌≡◌ {A = List Value} (felt m ∷ []) (felt n ∷ []) → m ≡ n
-one_value m n same = cc
-
 -- equal fields make equal verdicts
-same_verdict : (p q : Bool) (v w l m u x s t c d : ℕ) → p ≡ q → v ≡ w → l ≡ m → u ≡ x → s ≡ t → c ≡ d →
+same_verdict : (p q : Bool) (v w : List Value) (l m u x s t c d : ℕ) → p ≡ q → v ≡ w → l ≡ m → u ≡ x → s ≡ t → c ≡ d →
     ◌≡◌ {A = Verdict}
-    (record { outcome = record { panic = p; value = v; gas_left = l; gas_used = u }; steps = s; checks = c })
-    (record { outcome = record { panic = q; value = w; gas_left = m; gas_used = x }; steps = t; checks = d })
+    (record { outcome = record { panic = p; values = v; gas_left = l; gas_used = u }; steps = s; checks = c })
+    (record { outcome = record { panic = q; values = w; gas_left = m; gas_used = x }; steps = t; checks = d })
 same_verdict p q v w l m u x s t c d panic value left used steps checks = cc
 
 -- an accepted run has one verdict
@@ -184,9 +183,9 @@ one_verdict program input run a b a_is b_is =
     let b_steps = b_is.shown.steps in
     same_verdict _ _ _ _ _ _ _ _ _ _ _ _
     (a_is.shown.panic ∙ sym b_is.shown.panic)
-    (one_value a.outcome.value b.outcome.value (a_is.meant.values ∙ sym b_is.meant.values))
+    (all_meant_once a.outcome.values b.outcome.values (a_is.meant.values ∙ sym b_is.meant.values))
     (omega arith)
-    (a_is.shown.gas_used ∙ sym b_is.shown.gas_used)
+    (a_is.meant.gas_used ∙ sym b_is.meant.gas_used)
     (omega arith)
     (a_is.shown.checks ∙ sym b_is.shown.checks)
 
@@ -305,7 +304,7 @@ module _ (files : FileMap) (names : Names) (answer : Answer) (answered : Answers
   long_answer sources.Run comes long = is_too_long files names.run sources.Run (OfRunBytes comes.0 comes.1) answer calm long (with_gas comes.0 comes.1 comes.2)
 
   -- the answer of an input without the gas, ..
-  pub poor_answer : (program : Program) (input : Input) → HasProgram files names program → HasInput files names input → input.gas < entry_gas → answer ≡ answers.NotEnoughGas input.gas
+  pub poor_answer : (program : Program) (input : Input) → HasProgram files names program → HasInput files names input → input.gas < entry_gas program → answer ≡ answers.NotEnoughGas input.gas
   poor_answer program input has has_input below = elim (of_input program input has has_input) [
     | inl poor ↦ poor.1
     | inr enough ↦ absurd (omega (arith, enough.0, below))

@@ -1,7 +1,6 @@
 -- What a check answers, and what it writes.
 use Rattle.std.specs.Prelude.{ℕ, Bool, ◌≡◌, ◌<◌, ◌≤◌, ◌^◌, ◌⊎◌, List, [], ◌∷◌, length, take, Option, codes, decimal, if◌then◌else◌}
 use Rattle.std.specs.List.{concat}
-use Rattle.std.specs.FinMap.{get}
 use Rattle.edge_io.specs.Files.{FileMap, ForFile}
 use Rattle.run_file.specs.declared.run.Run.{Run}
 use Rattle.run_file.specs.Spelling.{IsRun, spelling}
@@ -11,10 +10,12 @@ use Rattle.sierra_tool.specs.declared.command.Source.{Source}
 use Rattle.sierra_tool.specs.declared.command.Source.TheVariants as sources
 use Rattle.sierra_tool.specs.declared.program.Program.{Program}
 use Rattle.sierra_tool.specs.declared.input.Input.{Input}
+use Rattle.sierra_tool.specs.declared.verdict.Value.{Value}
+use Rattle.sierra_tool.specs.declared.verdict.Value.TheVariants as values
 use Rattle.sierra_tool.specs.declared.verdict.Verdict.{Verdict}
-use Rattle.sierra_tool.specs.Accepted.{Accepts}
 use Rattle.sierra_tool.specs.Forms.{IsProgram, IsInput}
-use Rattle.sierra_tool.specs.Meaning.{entry_gas, code_of, arguments_of, Means, Shows, CostsAtMost}
+use Rattle.sierra_tool.specs.Meaning.{entry_gas}
+use Rattle.sierra_tool.specs.Runs.{IsAccepted, IsVerdict}
 
 -- the names of the three files of a check
 pub record Names : Type 0 where
@@ -63,16 +64,6 @@ LeadsTo source (found bytes) next answer =
 abbrev pub IsRunFile : Run → List ℕ → Type 0
 IsRunFile run bytes = IsRun run × (bytes ≡ spelling run)
 
--- the run of the program's code on the input is accepted
-abbrev pub IsAccepted : Program → Input → Run → Type 0
-IsAccepted program input run = Accepts (code_of program) (arguments_of input) run.rc (get run.memory) run.states
-
--- the verdict is what the run shows, its outcome is the meaning, and it costs at most the gas used
-pub record IsVerdict (program : Program) (input : Input) (run : Run) (verdict : Verdict) : Type 0 where
-  pub shown : Shows input (get run.memory) run.states verdict
-  pub meant : Means program input verdict.outcome
-  pub cost : CostsAtMost verdict
-
 -- a run that was read is rejected, or its verdict is answered
 abbrev pub OfRun : Program → Input → Run → Answer → Type 0
 OfRun program input run answer =
@@ -87,8 +78,8 @@ OfRunBytes program input bytes answer =
 -- an input that is read and has the gas leads to the run file
 abbrev pub OfInput : Option FileMap → Names → Program → Input → Answer → Type 0
 OfInput told names program input answer =
-    ((input.gas < entry_gas) × (answer ≡ answers.NotEnoughGas input.gas))
-    ⊎ ((entry_gas ≤ input.gas) × ((run : Reading) × Reads told names.run run × LeadsTo sources.Run run (OfRunBytes program input) answer))
+    ((input.gas < entry_gas program) × (answer ≡ answers.NotEnoughGas input.gas))
+    ⊎ ((entry_gas program ≤ input.gas) × ((run : Reading) × Reads told names.run run × LeadsTo sources.Run run (OfRunBytes program input) answer))
 
 abbrev pub OfInputText : Option FileMap → Names → Program → List ℕ → Answer → Type 0
 OfInputText told names program text answer =
@@ -134,10 +125,15 @@ status_of answers.RunRejected = 15
 abbrev pub outcome_word : Bool → List ℕ
 outcome_word panic = if panic then codes "panic " else codes "value "
 
+-- the number of the first value; it is all that is written of the values
+abbrev pub first_number : List Value → ℕ
+first_number [] = 0
+first_number (values.Felt n ∷ rest) = n
+
 -- the verdict's four lines
 abbrev pub verdict_text : Verdict → List ℕ
 verdict_text verdict =
-    concat (outcome_word verdict.outcome.panic ∷ decimal verdict.outcome.value
+    concat (outcome_word verdict.outcome.panic ∷ decimal (first_number verdict.outcome.values)
     ∷ codes "\ngas used " ∷ decimal verdict.outcome.gas_used
     ∷ codes "\nsteps " ∷ decimal verdict.steps
     ∷ codes "\nchecks " ∷ decimal verdict.checks
@@ -153,7 +149,7 @@ text_of names (answers.Missing source) = concat (codes "missing " ∷ name_of na
 text_of names (answers.ReadFault source) = concat (codes "read fault " ∷ name_of names source ∷ codes "\n" ∷ [])
 text_of names (answers.TooLong source) = concat (codes "too long " ∷ name_of names source ∷ codes "\n" ∷ [])
 text_of names answers.NotBuilt = not_built
-text_of names (answers.NotEnoughGas given) = concat (codes "need " ∷ decimal entry_gas ∷ codes " given " ∷ decimal given ∷ codes "\n" ∷ [])
+text_of names (answers.NotEnoughGas given) = concat (codes "need " ∷ decimal 300 ∷ codes " given " ∷ decimal given ∷ codes "\n" ∷ [])
 text_of names answers.RunRefused = []
 text_of names answers.RunRejected = []
 

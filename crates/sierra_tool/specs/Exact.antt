@@ -9,9 +9,10 @@ use Rattle.sierra_tool.specs.declared.command.Source.{Source}
 use Rattle.sierra_tool.specs.declared.command.Source.TheVariants as sources
 use Rattle.sierra_tool.specs.declared.program.Program.{Program}
 use Rattle.sierra_tool.specs.declared.input.Input.{Input}
-use Rattle.sierra_tool.specs.Answers.{Names, name_of, IsCheck, NoCheck, file_limit, IsRunFile, IsAccepted, IsVerdict}
+use Rattle.sierra_tool.specs.Answers.{Names, name_of, IsCheck, NoCheck, file_limit, IsRunFile}
 use Rattle.sierra_tool.specs.Forms.{IsProgram, IsInput}
 use Rattle.sierra_tool.specs.Meaning.{entry_gas}
+use Rattle.sierra_tool.specs.Runs.{IsAccepted, IsVerdict}
 
 -- no read of a file failed
 abbrev pub NoReadFault : Answer → Type 0
@@ -66,7 +67,7 @@ HasNoRun files names = HasFile files names.run (λ bytes. (run : Run) → IsRunF
 pub record CanRun (files : FileMap) (names : Names) (program : Program) (input : Input) : Type 0 where
   pub program_there : HasProgram files names program
   pub input_there : HasInput files names input
-  pub gas : entry_gas ≤ input.gas
+  pub gas : entry_gas program ≤ input.gas
 
 -- a check comes to this file, for nothing that is read before it is refused
 abbrev pub ComesTo : FileMap → Names → Source → Type 0
@@ -85,7 +86,7 @@ Cause files names (answers.TooLong source) = ComesTo files names source × IsToo
 Cause files names answers.NotBuilt = HasNoProgram files names ⊎ ((program : Program) × HasProgram files names program × HasNoInput files names)
 Cause files names (answers.NotEnoughGas given) =
     (program : Program) × (input : Input)
-    × HasProgram files names program × HasInput files names input × (input.gas < entry_gas) × (given ≡ input.gas)
+    × HasProgram files names program × HasInput files names input × (input.gas < entry_gas program) × (given ≡ input.gas)
 Cause files names answers.RunRefused = (program : Program) × (input : Input) × CanRun files names program input × HasNoRun files names
 Cause files names answers.RunRejected =
     (program : Program) × (input : Input) × (run : Run)
@@ -107,7 +108,7 @@ HasRefusedRun files names = (program : Program) × (input : Input) × CanRun fil
 
 -- the input has less gas than a run needs
 abbrev pub HasPoorInput : FileMap → Names → Type 0
-HasPoorInput files names = (program : Program) × (input : Input) × HasProgram files names program × HasInput files names input × (input.gas < entry_gas)
+HasPoorInput files names = (program : Program) × (input : Input) × HasProgram files names program × HasInput files names input × (input.gas < entry_gas program)
 
 -- the program or the input is not of the form
 abbrev pub HasOtherForm : FileMap → Names → Type 0

@@ -4,6 +4,9 @@ pub mod Command
 pub mod Exact
 pub mod Forms
 pub mod Meaning
+pub mod Ranges
 pub mod Refused
+pub mod Rejected
+pub mod Runs
 pub mod Scan
 pub mod Values

@@ -8,7 +8,7 @@ use crate::command::Source;
 use crate::verdict::Verdict;
 
 /// The answer of a check that had the memory that it wanted.
-#[derive(Clone, Copy, Debug, PartialEq, Eq)]
+#[derive(Debug, Drop)]
 pub enum Answer {
     /// The run is accepted, and this is what it shows.
     Judged(Verdict),

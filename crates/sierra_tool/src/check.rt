@@ -5,27 +5,23 @@ ghost use Rattle.std.specs.Prelude.{◌≡◌, ◌≤◌, IfOk, OnErr, length};
 ghost use Rattle.std.specs.FinMap.{get};
 ghost use Rattle.edge_io.specs.Counts.{Rose};
 ghost use Rattle.edge_io.specs.Files.{ForFile};
-ghost use Rattle.sierra_tool.specs.Answers.{Answers, OfProgram, OfInput, OfRunBytes, OfRun, IsAccepted, IsVerdict, HasCause};
+ghost use Rattle.sierra_tool.specs.Answers.{Answers, OfProgram, OfInput, OfRunBytes, HasCause};
 ghost use Rattle.sierra_tool.specs.Command.{names_of};
 ghost use Rattle.sierra_tool.specs.Meaning.{entry_gas};
 ghost use Rattle.sierra_tool.specs.Refused.{answer_of_fault};
 
-use crate::accepted::is_accepted;
 use crate::answer::Answer;
+use crate::code::entry_gas;
 use crate::command::{Check, Source};
 use crate::input::{Input, read_input};
+use crate::judge::of_run;
 use crate::program::{Program, read_program};
-use crate::verdict::{Outcome, Verdict};
 use edge_io::{Files, ReadFault, read_all};
-use felt64::Felt;
 use run_file::{FileRefusal, Run};
 use std::alloc::{AllocError, Global};
 
 /// No file is read beyond this number of bytes.
 const FILE_LIMIT: u64 = 1 << 24;
-
-/// The gas that a run of the form needs, 100 for each of its three steps.
-const ENTRY_GAS: u32 = 300;
 
 impl Check<'_> {
     /// Reads the three files, each where what came before it isn't refused, and judges the run.
@@ -82,7 +78,7 @@ impl Check<'_> {
         ensures answer { IfOk result (OfInput (F.contents files.old) (names_of self.now) program.now input.now) }
         ensures cause { IfOk result (HasCause (Rose (F.misses files.old) (F.misses files.new)) (Rose (F.faults files.old) (F.faults files.new))) }
     {
-        if input.gas < ENTRY_GAS {
+        if input.gas < entry_gas(program) {
             return Ok(Answer::NotEnoughGas(input.gas));
         }
         match read_all(alloc, files, self.run, FILE_LIMIT) {
@@ -111,45 +107,12 @@ fn of_run_bytes(
     input: &Input,
     bytes: &[u8],
 ) -> Result<Answer, AllocError>
-    requires { entry_gas ≤ input.now.gas }
+    requires { entry_gas program.now ≤ input.now.gas }
     ensures { IfOk result (OfRunBytes program.now input.now bytes.now) }
 {
     match run_file::read(alloc, bytes) {
-        Ok(run) => Ok(of_run(program, input, &run)),
+        Ok(run) => of_run(alloc, program, input, &run),
         Err(FileRefusal::Memory) => Err(AllocError),
         Err(_) => Ok(Answer::RunRefused),
-    }
-}
-
-/// What a run leads to: its verdict where it is accepted.
-fn of_run(program: &Program, input: &Input, run: &Run) -> Answer
-    requires { entry_gas ≤ input.now.gas }
-    ensures { OfRun program.now input.now run.now result }
-{
-    if is_accepted(program, input, run.rc, &run.memory, run.states.as_slice()) {
-        Answer::Judged(verdict(program, input, run))
-    } else {
-        Answer::RunRejected
-    }
-}
-
-/// The verdict that an accepted run shows.
-fn verdict(program: &Program, input: &Input, run: &Run) -> Verdict
-    requires accepted { IsAccepted program.now input.now run.now }
-    requires gas { entry_gas ≤ input.now.gas }
-    ensures { IsVerdict program.now input.now run.now result }
-{
-    let states = run.states.as_slice();
-    let steps = states.len() - 1;
-    let end = states[steps].ap.sub(Felt::from(1));
-    Verdict {
-        outcome: Outcome {
-            panic: false,
-            value: run.memory.get(end).unwrap(),
-            gas_left: u64::from(input.gas - ENTRY_GAS),
-            gas_used: u64::from(ENTRY_GAS),
-        },
-        steps: steps as u64,
-        checks: 0,
     }
 }

@@ -7,8 +7,11 @@
 mod accepted;
 pub mod answer;
 mod check;
+mod code;
 pub mod command;
 pub mod input;
+mod judge;
+mod laws;
 mod output;
 pub mod program;
 mod scan;
@@ -16,6 +19,9 @@ pub mod theorem;
 mod tool;
 pub mod verdict;
 
+pub use accepted::{CheckFault, test};
+pub use code::{ADD_IMMEDIATE, CALL_REL, JMP_REL, RET, code_words, entry_gas};
+pub use laws::accepted_runs_mean;
 pub use tool::{Shelf, sierra_tool};
 
 #[cfg(test)]

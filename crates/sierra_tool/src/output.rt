@@ -4,12 +4,12 @@
 ghost use Rattle.std.specs.Prelude.{◌≡◌, ◌≤◌, ◌<◌, ◌^◌, ◌++◌, [], ◌∷◌, OnOk, OnErr, decimal};
 ghost use Rattle.edge_io.specs.Counts.{Rose};
 ghost use Rattle.edge_io.specs.Sinks.{Appends, AppendsFront};
-ghost use Rattle.sierra_tool.specs.Answers.{text_of, outcome_word, verdict_text};
+ghost use Rattle.sierra_tool.specs.Answers.{text_of, first_number, outcome_word, verdict_text};
 ghost use Rattle.sierra_tool.specs.Command.{names_of};
 
 use crate::answer::Answer;
 use crate::command::Check;
-use crate::verdict::Verdict;
+use crate::verdict::{Value, Verdict};
 use edge_io::{Failed, Sink, write_all};
 use itoa::Buffer;
 
@@ -46,12 +46,22 @@ fn write_verdict<S: Sink>(out: &mut S, verdict: &Verdict) -> Result<(), Failed>
     write_number(
         out,
         word_of(outcome.panic),
-        outcome.value.value(),
+        first_number(outcome.values.as_slice()),
         b"\ngas used ",
     )?;
     write_number(out, b"", outcome.gas_used, b"\nsteps ")?;
     write_number(out, b"", verdict.steps, b"\nchecks ")?;
     write_number(out, b"", verdict.checks, b"\n")
+}
+
+/// The number of the first value.
+fn first_number(values: &[Value]) -> u64
+    ensures { result ≡ first_number values.now }
+{
+    match values {
+        [Value::Felt(n), ..] => n.value(),
+        [] => 0,
+    }
 }
 
 /// The word before an outcome's value.

@@ -1,27 +1,17 @@
-//! What every accepted run of the form shows, and which answer each check has: laws about the definitions, without code.
-//! Whoever reads the contract of the top call reads them beside it.
+//! Which answer each check has: laws about the definitions, without code. Whoever reads the contract of the top call reads them beside it.
 
-ghost use Rattle.std.specs.Prelude.{ℕ, ◌≡◌, ◌<◌, List, Option, Some};
+ghost use Rattle.std.specs.Prelude.{ℕ, ◌≡◌, ◌<◌, Some};
 ghost use Rattle.edge_io.specs.Files.{FileMap};
-ghost use Rattle.ro_machine.specs.declared.machine.State.{State};
 ghost use Rattle.sierra_tool.specs.declared.program.Program.{Program};
 ghost use Rattle.sierra_tool.specs.declared.input.Input.{Input};
-ghost use Rattle.sierra_tool.specs.declared.verdict.Verdict.{Verdict};
 ghost use Rattle.sierra_tool.specs.declared.answer.Answer.{Answer};
 ghost use Rattle.sierra_tool.specs.declared.answer.Answer.TheVariants as answers;
 ghost use Rattle.sierra_tool.specs.declared.command.Source.{Source};
 ghost use Rattle.run_file.specs.declared.run.Run.{Run};
-ghost use Rattle.sierra_tool.specs.Accepted.{Accepts};
-ghost use Rattle.sierra_tool.specs.Answers.{Names, name_of, IsAccepted, Answers, status_of};
+ghost use Rattle.sierra_tool.specs.Runs.{IsAccepted};
+ghost use Rattle.sierra_tool.specs.Answers.{Names, name_of, Answers, status_of};
 ghost use Rattle.sierra_tool.specs.Exact.{NoReadFault, IsMissing, IsTooLong, HasProgram, HasInput, HasRun, HasNoProgram, HasNoInput, HasNoRun, CanRun, ComesTo, Cause};
-ghost use Rattle.sierra_tool.specs.Meaning.{entry_gas, code_of, arguments_of, Means, Shows, CostsAtMost};
-
-/// Whatever an accepted run lists, the verdict that it shows is the meaning, and it costs at most the gas used.
-pub fn accepted_runs_mean()
-    ensures { (program : Program) (input : Input) (rc : ℕ) (cells : ℕ → Option ℕ) (states : List State) (verdict : Verdict) →
-        Accepts (code_of program) (arguments_of input) rc cells states →
-        Shows input cells states verdict → Means program input verdict.outcome × CostsAtMost verdict }
-{}
+ghost use Rattle.sierra_tool.specs.Meaning.{entry_gas};
 
 /// Of files that are told, a check has one answer, reads that failed aside: so each status comes exactly where its cause holds.
 pub fn one_answer()
@@ -42,7 +32,7 @@ pub fn exact_answers()
         (program : Program) (input : Input) → CanRun files names program input → HasNoRun files names → a ≡ answers.RunRefused }
     ensures poor { (files : FileMap) (names : Names) (a : Answer) → Answers (Some files) names a → NoReadFault a →
         (program : Program) (input : Input) → HasProgram files names program → HasInput files names input →
-        input.gas < entry_gas → a ≡ answers.NotEnoughGas input.gas }
+        input.gas < entry_gas program → a ≡ answers.NotEnoughGas input.gas }
     ensures no_program { (files : FileMap) (names : Names) (a : Answer) → Answers (Some files) names a → NoReadFault a →
         HasNoProgram files names → a ≡ answers.NotBuilt }
     ensures no_input { (files : FileMap) (names : Names) (a : Answer) → Answers (Some files) names a → NoReadFault a →

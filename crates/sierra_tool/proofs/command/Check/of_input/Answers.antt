@@ -1,4 +1,4 @@
-use Rattle.std.proofs.Common.{inr, subst}
+use Rattle.std.proofs.Common.{inr, subst, arith}
 use Rattle.sierra_tool.specs.Answers.{OfInput, OfRunBytes}
 use Rattle.sierra_tool.specs.Command.{names_of}
 use Rattle.sierra_tool.specs.declared.command.Source.TheVariants as sources
@@ -14,7 +14,7 @@ returns-in-Ok-clause-answer g c =
     let input = c.args.input.now in
     on_ok (OfRunBytes program input c.deref.result.now) (OfInput told names program input)
     (λ answer of_bytes. inr (
-      c.if-input-lt-ENTRY_GAS.false,
+      omega arith,
       leads_on told names.run sources.Run c.in-Ok.bytes (OfRunBytes program input) answer c.in-Ok.ensures.told c.in-Ok.ensures.within
           (subst (λ bytes. OfRunBytes program input bytes answer) c.deref.ensures.value of_bytes),
     ))
@@ -29,7 +29,7 @@ returns-in-Err-clause-answer g c =
     let input = c.args.input.now in
     on_refusal (OfInput told names program input) sources.Run c.in-Err.fault
     (λ answer is. inr (
-      c.if-input-lt-ENTRY_GAS.false,
+      omega arith,
       leads_refused told names.run sources.Run c.in-Err.fault (OfRunBytes program input) answer c.in-Err.ensures.told is,
     ))
     c.refused.result c.refused.ensures
