@@ -156,10 +156,10 @@ module _ (program : Program) (input : Input) (rc : ℕ) (m : ℕ → Option ℕ)
       let third_is : slice_get states 2 ≡ Some (record { pc = 6; ap = sum (sum base 2) 1; fp = sum base 2 }) = third.there ∙ ap Some added.next in
       let fourth = goes_by m states accepts.goes_on accepts.final 2 _ third_is (λ e. absurd (omega arith)) in
       let returned = returns m (sum (sum base 2) 1) (sum base 2) fourth.follower fourth.step (accepts.code_cells 6 (omega arith)) in
-      let at_end : fourth.follower.pc ≡ 2 = one_in (m (sum base 1)) _ _ (ap m (sym (back_cell base)) ∙ returned.pc_is) called.back in
+      let at_end : fourth.follower.pc ≡ 2 = one_in (m (sum base 1)) _ _ (subst (λ at. m at ≡ Some fourth.follower.pc) (back_cell base) returned.pc_is) called.back in
       let argument = one_below m base (arguments_of input) accepts.argument_cells in
       let argument_given : input.argument ≡ argument.number_there = one_number _ _ argument.value_is in
-      let argument_is : added.argument ≡ input.argument = one_in (m (difference base 1)) _ _ (ap m (sym (argument_cell base)) ∙ added.argument_is) (argument.listed ∙ ap Some (sym argument_given)) in
+      let argument_is : added.argument ≡ input.argument = one_in (m (difference base 1)) _ _ (subst (λ at. m at ≡ Some added.argument) (argument_cell base) added.argument_is) (subst (λ n. m (difference base 1) ≡ Some n) (sym argument_given) argument.listed) in
       record {
         four = ends_at m states accepts.goes_on 3 fourth.follower fourth.there at_end;
         last = fourth.follower;

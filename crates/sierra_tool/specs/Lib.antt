@@ -3,6 +3,7 @@ pub mod Answers
 pub mod Command
 pub mod Exact
 pub mod Forms
+pub mod Honest
 pub mod Meaning
 pub mod Ranges
 pub mod Refused
