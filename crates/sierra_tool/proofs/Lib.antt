@@ -1,4 +1,5 @@
 pub mod AcceptedLaws
+pub mod DecidedRuns
 pub mod HonestLaws
 pub mod RejectedLaws
 pub mod Soundness

@@ -125,8 +125,8 @@ ends_at m states go i s is there =
     ]
 
 -- the cell below the sum's end is the sum's cell
-end_cell : (frame : ℕ) → difference (sum frame 1) 1 ≡ sum frame 0
-end_cell frame = omega arith
+below_top : (m : ℕ → Option ℕ) (frame top word : ℕ) → top ≡ sum frame 1 → m (sum frame 0) ≡ Some word → m (difference top 1) ≡ Some word
+below_top m frame top word top_is there = let same : sum frame 0 ≡ difference top 1 = omega arith in subst (λ at. m at ≡ Some word) same there
 
 -- the cells below main's frame
 back_cell : (base : ℕ) → difference (sum base 2) 1 ≡ sum base 1
@@ -156,15 +156,16 @@ module _ (program : Program) (input : Input) (rc : ℕ) (m : ℕ → Option ℕ)
       let third_is : slice_get states 2 ≡ Some (record { pc = 6; ap = sum (sum base 2) 1; fp = sum base 2 }) = third.there ∙ ap Some added.next in
       let fourth = goes_by m states accepts.goes_on accepts.final 2 _ third_is (λ e. absurd (omega arith)) in
       let returned = returns m (sum (sum base 2) 1) (sum base 2) fourth.follower fourth.step (accepts.code_cells 6 (omega arith)) in
-      let at_end : fourth.follower.pc ≡ 2 = one_in (m (sum base 1)) _ _ (subst (λ at. m at ≡ Some fourth.follower.pc) (back_cell base) returned.pc_is) called.back in
+      let at_end : fourth.follower.pc ≡ 2 = one_in (m (sum base 1)) fourth.follower.pc 2 (subst (λ at. m at ≡ Some fourth.follower.pc) (back_cell base) returned.pc_is) called.back in
       let argument = one_below m base (arguments_of input) accepts.argument_cells in
       let argument_given : input.argument ≡ argument.number_there = one_number _ _ argument.value_is in
-      let argument_is : added.argument ≡ input.argument = one_in (m (difference base 1)) _ _ (subst (λ at. m at ≡ Some added.argument) (argument_cell base) added.argument_is) (subst (λ n. m (difference base 1) ≡ Some n) (sym argument_given) argument.listed) in
+      let argument_is : added.argument ≡ input.argument = one_in (m (difference base 1)) added.argument input.argument (subst (λ at. m at ≡ Some added.argument) (argument_cell base) added.argument_is) (subst (λ n. m (difference base 1) ≡ Some n) (sym argument_given) argument.listed) in
       record {
         four = ends_at m states accepts.goes_on 3 fourth.follower fourth.there at_end;
         last = fourth.follower;
         last_is = fourth.there;
-        result_is = ap (λ n. m (difference n 1)) returned.ap_is ∙ ap m (end_cell (sum base 2)) ∙ added.sum_is ∙ ap (λ n. Some (sum n program.constant)) argument_is;
+        result_is = below_top m (sum base 2) fourth.follower.ap (sum input.argument program.constant) returned.ap_is
+            (subst (λ n. m (sum (sum base 2) 0) ≡ Some (sum n program.constant)) argument_is added.sum_is);
       }
 
   -- the last state is the fourth

@@ -12,7 +12,7 @@ pub record OneBelow (m : ℕ → Option ℕ) (top : ℕ) (vs : List Val) : Type 
   pub value_is : vs ≡ Number felt64 number_there ∷ []
   pub listed : m (difference top 1) ≡ Some number_there
 
-cell_there : (top : ℕ) → sum (difference top 1) 0 ≡ difference top 1
+pub cell_there : (top : ℕ) → sum (difference top 1) 0 ≡ difference top 1
 cell_there top = omega arith
 
 same_reading : (o : Option ℕ) (n : ℕ) → ◌≡◌ {A = List (Option ℕ)} (o ∷ []) (Some n ∷ []) → o ≡ Some n

@@ -1,17 +1,19 @@
 //! What every accepted run shows: laws about the definitions, without code. Whoever reads the contract of the top call
 //! reads them beside it.
 
-ghost use Rattle.std.specs.Prelude.{◌≡◌, ℕ, ◌<◌, ◌≤◌, List, Option, Some};
+ghost use Rattle.std.specs.Prelude.{◌≡◌, ◌⊎◌, ℕ, ◌<◌, ◌≤◌, List, length, Option, Some};
 ghost use Rattle.std.specs.FinMap.{get};
 ghost use Rattle.felt64.specs.Field.{modulus};
 ghost use Rattle.ro_machine.specs.declared.machine.State.{State};
 ghost use Rattle.sierra_tool.specs.declared.program.Program.{Program};
 ghost use Rattle.sierra_tool.specs.declared.input.Input.{Input};
 ghost use Rattle.sierra_tool.specs.declared.verdict.Verdict.{Verdict};
-ghost use Rattle.sierra_tool.specs.Accepted.{Accepts};
+ghost use Rattle.sierra_tool.specs.declared.accepted.CheckFault.{CheckFault};
+ghost use Rattle.run_file.specs.declared.run.Run.{Run};
+ghost use Rattle.sierra_tool.specs.Accepted.{Accepts, most_states};
 ghost use Rattle.sierra_tool.specs.Honest.{honest_run, IsNeeded};
 ghost use Rattle.sierra_tool.specs.Meaning.{entry_gas, code_of, parameter_types, arguments_of, Means};
-ghost use Rattle.sierra_tool.specs.Runs.{IsAccepted, Shows, CostsAtMost, IsVerdict};
+ghost use Rattle.sierra_tool.specs.Runs.{IsAccepted, IsRejected, Shows, CostsAtMost, IsVerdict};
 
 /// Whatever an accepted run lists, the verdict that it shows is the meaning, and it costs at most the gas used.
 pub fn accepted_runs_mean()
@@ -30,4 +32,15 @@ pub fn honest_runs_are_accepted()
     ensures needed { (program : Program) (input : Input) (at word : ℕ) →
         get (honest_run program input).memory at ≡ Some word →
         IsNeeded (code_of program) (parameter_types program) (get (honest_run program input).memory) (honest_run program input).states at }
+{}
+
+/// Of each run with at most as many states as a run may have, exactly one holds: it is accepted, or it is rejected for
+/// one fault.
+pub fn runs_have_one_cause()
+    ensures either { (program : Program) (input : Input) (run : Run) → input.argument < modulus → length run.states ≤ most_states →
+        IsAccepted program input run ⊎ ((fault : CheckFault) × IsRejected program input run fault) }
+    ensures not_both { (program : Program) (input : Input) (run : Run) (fault : CheckFault) →
+        IsRejected program input run fault → IsAccepted program input run → ⊥ }
+    ensures once { (program : Program) (input : Input) (run : Run) (a b : CheckFault) →
+        IsRejected program input run a → IsRejected program input run b → a ≡ b }
 {}

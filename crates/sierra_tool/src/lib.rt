@@ -19,9 +19,8 @@ pub mod theorem;
 mod tool;
 pub mod verdict;
 
-pub use accepted::{CheckFault, test};
-pub use code::{ADD_IMMEDIATE, CALL_REL, JMP_REL, RET, code_words, entry_gas};
-pub use laws::{accepted_runs_mean, honest_runs_are_accepted};
+pub use accepted::CheckFault;
+pub use laws::{accepted_runs_mean, honest_runs_are_accepted, runs_have_one_cause};
 pub use tool::{Shelf, sierra_tool};
 
 #[cfg(test)]
