@@ -1,5 +1,6 @@
 -- Rejected runs: the first part of an accepted run that fails, and its values.
 use Rattle.std.specs.Prelude.{ℕ, ◌≡◌, ◌≢◌, ◌<◌, ◌≤◌, ◌+◌, ◌⊎◌, List, [], ◌∷◌, length, Option, Some, slice_get}
+use Rattle.std.specs.FinMap.{get}
 use Rattle.felt64.specs.Field.{sum, difference}
 use Rattle.ro_machine.specs.declared.machine.State.{State}
 use Rattle.ro_machine.specs.declared.machine.StepFault.{StepFault}
@@ -7,6 +8,10 @@ use Rattle.ro_machine.specs.Readings.{cells_at}
 use Rattle.ro_machine.specs.Step.{Step, Stops}
 use Rattle.sierra_tool.specs.declared.accepted.CheckFault.{CheckFault}
 use Rattle.sierra_tool.specs.declared.accepted.CheckFault.TheVariants as faults
+use Rattle.run_file.specs.declared.run.Run.{Run}
+use Rattle.sierra_tool.specs.declared.program.Program.{Program}
+use Rattle.sierra_tool.specs.declared.input.Input.{Input}
+use Rattle.sierra_tool.specs.Meaning.{code_of, parameter_types, arguments_of}
 use Rattle.sierra_tool.specs.Accepted.{final_pc, range_limit, HoldsCode, StartsAt, ArgumentsStand, GoesOn, Follows, AllGoOn, Ends, AllInRange}
 use Rattle.sierra_tool.specs.Values.{Ty, number, Val, Number, size, sizes, Stands}
 
@@ -68,3 +73,7 @@ Rejects code types arguments rc m states fault =
     ⊎ (AllGoOn m states
     × (FinalFails states fault
     ⊎ (Ends states × RangeFails m rc (length states) fault)))))))))
+
+-- the run of the program's code on the input is rejected for this fault
+abbrev pub IsRejected : Program → Input → Run → CheckFault → Type 0
+IsRejected program input run = Rejects (code_of program) (parameter_types program) (arguments_of input) run.rc (get run.memory) run.states

@@ -7,19 +7,13 @@ use Rattle.run_file.specs.declared.run.Run.{Run}
 use Rattle.sierra_tool.specs.declared.program.Program.{Program}
 use Rattle.sierra_tool.specs.declared.input.Input.{Input}
 use Rattle.sierra_tool.specs.declared.verdict.Verdict.{Verdict}
-use Rattle.sierra_tool.specs.declared.accepted.CheckFault.{CheckFault}
 use Rattle.sierra_tool.specs.Accepted.{Accepts, IsLast}
 use Rattle.sierra_tool.specs.Meaning.{entry_gas, code_of, parameter_types, result_types, arguments_of, Means}
-use Rattle.sierra_tool.specs.Rejected.{Rejects}
 use Rattle.sierra_tool.specs.Values.{StandAll, sizes, meant}
 
 -- the run of the program's code on the input is accepted
 abbrev pub IsAccepted : Program → Input → Run → Type 0
 IsAccepted program input run = Accepts (code_of program) (parameter_types program) (arguments_of input) run.rc (get run.memory) run.states
-
--- the run is rejected for this
-abbrev pub IsRejected : Program → Input → Run → CheckFault → Type 0
-IsRejected program input run = Rejects (code_of program) (parameter_types program) (arguments_of input) run.rc (get run.memory) run.states
 
 -- The verdict that the run itself shows: its values stand in the cells that end below the last state's ap. Main has
 -- no gas builtin, so its gas left is the input's less what the program needs; it has no range check builtin, so it

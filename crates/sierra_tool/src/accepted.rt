@@ -9,8 +9,8 @@ ghost use Rattle.std.specs.FinMap.{get};
 ghost use Rattle.felt64.specs.Field.{difference};
 ghost use Rattle.sierra_tool.specs.Accepted.{most_states, HoldsCode, StartsAt, ArgumentsStand, GoesOn, AllGoOn, Ends, AllInRange};
 ghost use Rattle.sierra_tool.specs.Ranges.{AllNarrow, IsWide, IsFirstWide};
-ghost use Rattle.sierra_tool.specs.Rejected.{CodeFails, StartFails, ArgumentsFail, StateFails, StatesFail, RangeFails};
-ghost use Rattle.sierra_tool.specs.Runs.{IsAccepted, IsRejected};
+ghost use Rattle.sierra_tool.specs.Rejected.{CodeFails, StartFails, ArgumentsFail, StateFails, StatesFail, RangeFails, IsRejected};
+ghost use Rattle.sierra_tool.specs.Runs.{IsAccepted};
 ghost use Rattle.sierra_tool.specs.Values.{number, felt64, Number};
 
 use crate::code::code_words;

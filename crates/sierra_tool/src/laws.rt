@@ -13,7 +13,8 @@ ghost use Rattle.run_file.specs.declared.run.Run.{Run};
 ghost use Rattle.sierra_tool.specs.Accepted.{Accepts, most_states};
 ghost use Rattle.sierra_tool.specs.Honest.{honest_run, IsNeeded};
 ghost use Rattle.sierra_tool.specs.Meaning.{entry_gas, code_of, parameter_types, arguments_of, Means};
-ghost use Rattle.sierra_tool.specs.Runs.{IsAccepted, IsRejected, Shows, CostsAtMost, IsVerdict};
+ghost use Rattle.sierra_tool.specs.Rejected.{IsRejected};
+ghost use Rattle.sierra_tool.specs.Runs.{IsAccepted, Shows, CostsAtMost, IsVerdict};
 
 /// Whatever an accepted run lists, the verdict that it shows is the meaning, and it costs at most the gas used.
 pub fn accepted_runs_mean()
