@@ -1,7 +1,8 @@
 -- The parts of an accepted run, in terms of the cells and states that a test looks at.
-use Rattle.std.proofs.Common.{◌≡◌, inl, inr, ℕ, ◌+◌, ◌-◌, ◌<◌, ◌≤◌, List, length, get_or, Option, Some, None, refl, subst, arith}
+use Rattle.std.proofs.Common.{◌≡◌, inl, inr, ℕ, ◌+◌, ◌-◌, ◌<◌, ◌≤◌, List, length, take, drop, get_or, Option, Some, None, refl, ap, subst, ◌∙◌, arith}
 use Rattle.std.specs.List.{slice_get}
 use Rattle.std.proofs.lemmas.Bool.{cases_lt}
+use Rattle.std.proofs.lemmas.List.{get_or-take, get_or-drop, length-drop}
 use Rattle.std.proofs.lemmas.Option.{slice_get_read, slice_get_within}
 use Rattle.ro_machine.specs.declared.machine.State.{State}
 use Rattle.std.specs.Option.{IfSome}
@@ -32,23 +33,28 @@ narrow_and_next m first end word narrow is below at other above within listed =
           omega arith
     ]
 
--- two neighbours that were read follow one another
-pub pair_follows : (states : List State) (i : ℕ) (s follower : State) → 1 ≤ i → i < length states → s ≡ get_or states (i - 1) s → follower ≡ get_or states i follower → Follows states (i - 1) s follower
-pair_follows states i s follower some within s_is follower_is = record {
-  here = slice_get_read states (length states) (i - 1) s refl (omega arith) s_is;
-  after = let place : i - 1 + 1 ≡ i = omega arith in rw place (slice_get_read states (length states) i follower refl within follower_is);
-}
+-- the two states of a window of two follow one another
+pub window_follows : (states left window : List State) (n : ℕ) (s follower : State) → left ≡ drop n states → 2 ≤ length left → window ≡ take 2 left → s ≡ get_or window 0 s → follower ≡ get_or window 1 follower → Follows states n s follower
+window_follows states left window n s follower left_is long window_is s_is follower_is =
+    let within : n + 1 < length states = omega (arith, ap length left_is, length-drop n states) in
+    let at : (i : ℕ) (t : State) → i < 2 → get_or window i t ≡ get_or states (n + i) t =
+    λ i t small. ap (λ w. get_or w i t) window_is ∙ get_or-take 2 left i t small ∙ ap (λ l. get_or l i t) left_is ∙ get_or-drop n states i t in
+    let place : n + 0 ≡ n = omega arith in
+    record {
+      here = slice_get_read states (length states) n s refl (omega arith) (s_is ∙ at 0 s (omega arith) ∙ ap (λ i. get_or states i s) place);
+      after = slice_get_read states (length states) (n + 1) follower refl within (follower_is ∙ at 1 follower (omega arith));
+    }
 
--- the first states go on, and one more
-pub goes_on_more : (m : ℕ → Option ℕ) (states : List State) (i : ℕ) (s follower : State) → 1 ≤ i → Follows states (i - 1) s follower → GoesOn m s follower →
-    ((k : ℕ) (s follower : State) → k + 1 < i → Follows states k s follower → GoesOn m s follower) →
-    (k : ℕ) (s follower : State) → k + 1 < i + 1 → Follows states k s follower → GoesOn m s follower
-goes_on_more m states i s follower some pair goes before k s' follower' within pair' =
-    elim (cases_lt (k + 1) i) [
+-- one state after those that go on
+pub goes_on_more : (m : ℕ → Option ℕ) (states : List State) (n : ℕ) (s follower : State) → Follows states n s follower → GoesOn m s follower →
+    ((k : ℕ) (s follower : State) → k < n → Follows states k s follower → GoesOn m s follower) →
+    (k : ℕ) (s follower : State) → k < n + 1 → Follows states k s follower → GoesOn m s follower
+goes_on_more m states n s follower pair goes before k s' follower' within pair' =
+    elim (cases_lt k n) [
       | inl earlier ↦ before k s' follower' earlier pair'
       | inr not_earlier ↦
-          let place : i - 1 ≡ k = omega arith in
-          let at_k : Follows states k s follower = rw place at pair in
+          let place : n ≡ k = omega arith in
+          let at_k : Follows states k s follower = subst (λ i. Follows states i s follower) place pair in
           let same : s ≡ s' = one_in (slice_get states k) s s' at_k.here pair'.here in
           let same_follower : follower ≡ follower' = one_in (slice_get states (k + 1)) follower follower' at_k.after pair'.after in
           subst (λ t. GoesOn m s' t) same_follower (subst (λ t. GoesOn m t follower) same goes)

@@ -134,8 +134,8 @@ fn test_states(memory: &Memory, states: &[State]) -> Result<(), CheckFault>
     ensures ok { OnOk result (AllGoOn (get memory.now) states.now) }
     ensures err { IfErr result (StatesFail (get memory.now) states.now) }
 {
-    for i in 1..states.len() {
-        if let Err(fault) = test_state(memory, i as u64 - 1, states[i - 1], states[i]) {
+    for (number, pair) in states.windows(2).enumerate() {
+        if let Err(fault) = test_state(memory, number as u64, pair[0], pair[1]) {
             return Err(fault);
         }
     }
