@@ -19,7 +19,13 @@ use Rattle.sierra_tool.specs.declared.verdict.Verdict.{Verdict}
 use Rattle.sierra_tool.specs.Causes.{Reading, absent, unread, found, Readings, Holds, IsTooLong, IsRunFile, HasProgram, HasInput, HasRun, CanRun, ComesTo, IsNoRunFile, Cause}
 use Rattle.sierra_tool.specs.Command.{limit}
 use Rattle.sierra_tool.specs.Forms.{IsProgram, IsInput}
-use Rattle.sierra_tool.specs.Meaning.{entry_gas}
+use Rattle.felt64.specs.Field.{modulus}
+use Rattle.std.specs.FinMap.{get}
+use Rattle.sierra_tool.specs.Meaning.{entry_gas, code_of, parameter_types, arguments_of}
+use Rattle.sierra_tool.specs.Rejected.{IsRejected}
+use Rattle.sierra_tool.specs.declared.accepted.CheckFault.{CheckFault}
+use Rattle.sierra_tool.proofs.DecidedRuns.{accepted_or_rejected}
+use Rattle.sierra_tool.proofs.RejectedLaws.{not_both, rejected_once}
 use Rattle.sierra_tool.specs.Runs.{IsAccepted, IsVerdict}
 use Rattle.sierra_tool.specs.Stages.{IsUnfit, IsRefused, NoProgram, NoInput, NoRun, OfRun}
 use Rattle.sierra_tool.proofs.FormLaws.{one_program, one_input}
@@ -83,10 +89,16 @@ module _ {X : Type 0} (source : Source) (wrong : List ℕ → Answer → Type 0)
 
 -- ---- The stages of a check
 
+one_cause : (program : Program) (input : Input) (run : Run) (e f : CheckFault) → IsRejected program input run e → IsRejected program input run f → e ≡ f
+one_cause program input run e f p q = rejected_once (code_of program) (parameter_types program) (arguments_of input) run.rc (get run.memory) run.states e f p q
+
+never_accepted : (program : Program) (input : Input) (run : Run) (fault : CheckFault) → IsRejected program input run fault → IsAccepted program input run → ⊥
+never_accepted program input run fault p q = not_both (code_of program) (parameter_types program) (arguments_of input) run.rc (get run.memory) run.states fault p q
+
 of_run_once : (program : Program) (input : Input) (run : Run) (a b : Answer) → OfRun program input run a → OfRun program input run b → a ≡ b
-of_run_once program input run a b (inl p) (inl q) = p.1 ∙ sym q.1
-of_run_once program input run a b (inl p) (inr q) = absurd (p.0 q.0)
-of_run_once program input run a b (inr p) (inl q) = absurd (q.0 p.0)
+of_run_once program input run a b (inl p) (inl q) = p.2 ∙ ap answers.RunRejected (one_cause program input run p.0 q.0 p.1 q.1) ∙ sym q.2
+of_run_once program input run a b (inl p) (inr q) = absurd (never_accepted program input run p.0 p.1 q.0)
+of_run_once program input run a b (inr p) (inl q) = absurd (never_accepted program input run q.0 q.1 p.0)
 of_run_once program input run a b (inr p) (inr q) = p.1.2 ∙ ap answers.Judged (one_verdict program input run p.1.0 q.1.0 p.1.1 q.1.1) ∙ sym q.1.2
 
 abbrev AfterGas : Readings → Program → Input → Answer → Type 0
@@ -94,7 +106,7 @@ AfterGas readings program input = Stage sources.Run NoRun IsRunFile (OfRun progr
 
 abbrev AfterInput : Readings → Program → Input → Answer → Type 0
 AfterInput readings program input answer =
-    ((input.gas < entry_gas) × (answer ≡ answers.NotEnoughGas entry_gas input.gas)) ⊎ ((entry_gas ≤ input.gas) × AfterGas readings program input answer)
+    ((input.gas < entry_gas program) × (answer ≡ answers.NotEnoughGas (entry_gas program) input.gas)) ⊎ ((entry_gas program ≤ input.gas) × AfterGas readings program input answer)
 
 abbrev AfterProgram : Readings → Program → Answer → Type 0
 AfterProgram readings program = Stage sources.Input NoInput IsInput (AfterInput readings program) (readings sources.Input)
@@ -150,14 +162,14 @@ ordered command readings (answers.TooLong source) c = unfit_ordered command read
 ordered command readings answers.NotBuilt (inl p) = inl (inr (p.0, p.1, p.2, (p.3, refl)))
 ordered command readings answers.NotBuilt (inr p) = inr (p.0, p.1, inl (inr (p.2.0, p.2.1, p.2.2, (p.2.3, refl))))
 ordered command readings (answers.NotEnoughGas need given) c =
-    inr (c.0, c.2, inr (c.1, c.3, inl (omega (arith, c.4, c.5, c.6), same_gas need given entry_gas c.1.gas c.5 c.6)))
+    inr (c.0, c.2, inr (c.1, c.3, inl (omega (arith, c.4, c.5, c.6), same_gas need given (entry_gas c.0) c.1.gas c.5 c.6)))
 ordered command readings (answers.RunRefused refusal) c =
     let can = c.0.3 in
     let held = c.1 in
     inr (c.0.1, can.program_read, inr (c.0.2, can.input_read, inr (can.gas, inl (inr (held.0, held.1, held.2, (refusal, held.3, refl))))))
-ordered command readings answers.RunRejected c =
+ordered command readings (answers.RunRejected fault) c =
     let can = c.3 in
-    inr (c.0, can.program_read, inr (c.1, can.input_read, inr (can.gas, inr (c.2, c.4, inl (c.5, refl)))))
+    inr (c.0, can.program_read, inr (c.1, can.input_read, inr (can.gas, inr (c.2, c.4, inl (fault, c.5, refl)))))
 ordered command readings (answers.Judged verdict) c =
     let can = c.3 in
     inr (c.0, can.program_read, inr (c.1, can.input_read, inr (can.gas, inr (c.2, c.4, inr (c.5, (verdict, c.6, refl))))))
@@ -187,16 +199,13 @@ module _ (check : Check) (readings : Readings)
     -- .. a run is rejected or judged, ..
     no_run : (program : Program) (input : Input) (run : Run) → CanRun readings program input → HasRun readings run → ⊥
     no_run program input run can has =
-        none answers.RunRejected (
-          program,
-          input,
-          run,
-          can,
-          has,
-          λ accepted.
+        let fits : input.argument < modulus = can.input_read.3.argument_below in
+        elim (accepted_or_rejected (code_of program) input.argument run.rc (get run.memory) run.states has.3.0.state_count fits) [
+          | inl accepted ↦
               let verdict = some_verdict program input run can.gas accepted in
-              none (answers.Judged verdict.0) (program, input, run, can, has, accepted, verdict.1),
-        )
+              none (answers.Judged verdict.0) (program, input, run, can, has, accepted, verdict.1)
+          | inr rejected ↦ none (answers.RunRejected rejected.0) (program, input, run, can, has, rejected.1)
+        ]
 
     -- .. bytes are refused or a run's, ..
     no_bytes : (program : Program) (input : Input) → CanRun readings program input → ⊥
@@ -210,8 +219,8 @@ module _ (check : Check) (readings : Readings)
 
     -- .. an input has too little gas or enough, ..
     no_gas : (program : Program) (input : Input) → HasProgram readings program → HasInput readings program input → ⊥
-    no_gas program input has has_input = elim (cases_lt input.gas entry_gas) [
-      | inl less ↦ none (answers.NotEnoughGas entry_gas input.gas) (program, input, has, has_input, less, refl, refl)
+    no_gas program input has has_input = elim (cases_lt input.gas (entry_gas program)) [
+      | inl less ↦ none (answers.NotEnoughGas (entry_gas program) input.gas) (program, input, has, has_input, less, refl, refl)
       | inr enough ↦ no_bytes program input (record { program_read = has; input_read = has_input; gas = omega arith })
     ]
 

@@ -59,7 +59,7 @@ module _ (command other : Command) (readings others : Readings)
     cause_over (answers.NotEnoughGas need given) calm c =
         (c.0, c.1, held_over sources.Program _ c.2, held_over sources.Input _ c.3, c.4, c.5, c.6)
     cause_over (answers.RunRefused refusal) calm c = (comes_over sources.Run c.0, held_over sources.Run _ c.1)
-    cause_over answers.RunRejected calm c = (c.0, c.1, c.2, can_over c.0 c.1 c.3, held_over sources.Run _ c.4, c.5)
+    cause_over (answers.RunRejected fault) calm c = (c.0, c.1, c.2, can_over c.0 c.1 c.3, held_over sources.Run _ c.4, c.5)
     cause_over (answers.Judged verdict) calm c = (c.0, c.1, c.2, can_over c.0 c.1 c.3, held_over sources.Run _ c.4, c.5, c.6)
 
 -- the same arguments are commands that read the same

@@ -1,8 +1,12 @@
 pub mod AcceptedLaws
 pub mod Causes
 pub mod CommandLaws
+pub mod DecidedRuns
 pub mod Exact
 pub mod FormLaws
+pub mod HonestLaws
+pub mod RejectedLaws
 pub mod Soundness
 pub mod Stages
+pub mod ValueLaws
 pub mod VerdictLaws

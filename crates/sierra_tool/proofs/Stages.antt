@@ -174,7 +174,7 @@ stops_at_input check before middle now program stop first part =
     }
 
 -- .. for too little gas, ..
-pub stops_at_gas : (check : Check) (before middle now : FilesView) (program : Program) (input : Input) (need given : ℕ) → ReadsSource before middle check.program.now TakesProgram (IsRefused sources.Program NoProgram) (Ok program) → ReadsSource middle now check.input.now TakesInput (IsRefused sources.Input NoInput) (Ok input) → given < need → need ≡ entry_gas → given ≡ input.gas → Works before now (Some (commands.Check check)) (Err (stops.Refused (answers.NotEnoughGas need given)))
+pub stops_at_gas : (check : Check) (before middle now : FilesView) (program : Program) (input : Input) (need given : ℕ) → ReadsSource before middle check.program.now TakesProgram (IsRefused sources.Program NoProgram) (Ok program) → ReadsSource middle now check.input.now TakesInput (IsRefused sources.Input NoInput) (Ok input) → given < need → need ≡ entry_gas program → given ≡ input.gas → Works before now (Some (commands.Check check)) (Err (stops.Refused (answers.NotEnoughGas need given)))
 stops_at_gas check before middle now program input need given first second less need_is given_is =
     let known = before.contents in
     let run = usual known check.run.now in
@@ -186,7 +186,7 @@ stops_at_gas check before middle now program input need given first second less 
     }
 
 -- .. or at the run; ..
-pub stops_at_run : (check : Check) (before middle third now : FilesView) (program : Program) (input : Input) (stop : Stop) → ReadsSource before middle check.program.now TakesProgram (IsRefused sources.Program NoProgram) (Ok program) → ReadsSource middle third check.input.now TakesInput (IsRefused sources.Input NoInput) (Ok input) → entry_gas ≤ input.gas → ReadsSource third now check.run.now TakesRun (IsRefused sources.Run NoRun) (Err stop) → Works before now (Some (commands.Check check)) (Err stop)
+pub stops_at_run : (check : Check) (before middle third now : FilesView) (program : Program) (input : Input) (stop : Stop) → ReadsSource before middle check.program.now TakesProgram (IsRefused sources.Program NoProgram) (Ok program) → ReadsSource middle third check.input.now TakesInput (IsRefused sources.Input NoInput) (Ok input) → entry_gas program ≤ input.gas → ReadsSource third now check.run.now TakesRun (IsRefused sources.Run NoRun) (Err stop) → Works before now (Some (commands.Check check)) (Err stop)
 stops_at_run check before middle third now program input stop first second enough part =
     let known = before.contents in
     let keeps = Keeps-more before middle third first.keeps second.keeps in
@@ -208,8 +208,22 @@ stops_at_run check before middle third now program input stop first second enoug
           (λ present. may_be_there known check.program.now first.reading first.given (held_present sources.Program first.reading (λ text. IsProgram text program) first.outcome)) stop part.outcome;
     }
 
+-- .. or memory runs out at the verdict, ..
+pub runs_out : (check : Check) (before middle third now : FilesView) (program : Program) (input : Input) (run : Run) → ReadsSource before middle check.program.now TakesProgram (IsRefused sources.Program NoProgram) (Ok program) → ReadsSource middle third check.input.now TakesInput (IsRefused sources.Input NoInput) (Ok input) → ReadsSource third now check.run.now TakesRun (IsRefused sources.Run NoRun) (Ok run) → Works before now (Some (commands.Check check)) (Err stops.OutOfMemory)
+runs_out check before middle third now program input run first second part =
+    let known = before.contents in
+    let keeps = Keeps-more before middle third first.keeps second.keeps in
+    record {
+      keeps = Keeps-more before third now keeps part.keeps;
+      readings = of_three first.reading second.reading part.reading;
+      given = are_given known check first.reading second.reading part.reading first.given
+          (subst (λ contents. Gives contents check.input.now second.reading) first.keeps.contents second.given)
+          (subst (λ contents. Gives contents check.run.now part.reading) keeps.contents part.given);
+      outcome = may_be_there known check.program.now first.reading first.given (held_present sources.Program first.reading (λ text. IsProgram text program) first.outcome);
+    }
+
 -- .. or it comes to the end
-pub ends : (check : Check) (before middle third now : FilesView) (program : Program) (input : Input) (run : Run) (answer : Answer) → ReadsSource before middle check.program.now TakesProgram (IsRefused sources.Program NoProgram) (Ok program) → ReadsSource middle third check.input.now TakesInput (IsRefused sources.Input NoInput) (Ok input) → entry_gas ≤ input.gas → ReadsSource third now check.run.now TakesRun (IsRefused sources.Run NoRun) (Ok run) → OfRun program input run answer → Works before now (Some (commands.Check check)) (Ok answer)
+pub ends : (check : Check) (before middle third now : FilesView) (program : Program) (input : Input) (run : Run) (answer : Answer) → ReadsSource before middle check.program.now TakesProgram (IsRefused sources.Program NoProgram) (Ok program) → ReadsSource middle third check.input.now TakesInput (IsRefused sources.Input NoInput) (Ok input) → entry_gas program ≤ input.gas → ReadsSource third now check.run.now TakesRun (IsRefused sources.Run NoRun) (Ok run) → OfRun program input run answer → Works before now (Some (commands.Check check)) (Ok answer)
 ends check before middle third now program input run answer first second enough part of_run =
     let known = before.contents in
     let keeps = Keeps-more before middle third first.keeps second.keeps in
@@ -217,8 +231,8 @@ ends check before middle third now program input run answer first second enough 
     let command : Command = commands.Check check in
     let can : CanRun readings program input = record { program_read = first.outcome; input_read = second.outcome; gas = enough } in
     let caused : IsCaused before now (Some command) readings answer = elim of_run [
-      | inl rejected ↦ subst (IsCaused before now (Some command) readings) (sym rejected.1)
-          ((program, input, run, can, part.outcome, rejected.0), uncounted before now answers.RunRejected (λ source e. cc) (λ source e. cc))
+      | inl rejected ↦ subst (IsCaused before now (Some command) readings) (sym rejected.2)
+          ((program, input, run, can, part.outcome, rejected.1), uncounted before now (answers.RunRejected rejected.0) (λ source e. cc) (λ source e. cc))
       | inr judged ↦ subst (IsCaused before now (Some command) readings) (sym judged.1.2)
           ((program, input, run, can, part.outcome, judged.0, judged.1.1), uncounted before now (answers.Judged judged.1.0) (λ source e. cc) (λ source e. cc))
     ] in

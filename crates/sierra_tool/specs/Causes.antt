@@ -16,6 +16,7 @@ use Rattle.sierra_tool.specs.declared.input.Input.{Input}
 use Rattle.sierra_tool.specs.Command.{name_of, IsRead, limit}
 use Rattle.sierra_tool.specs.Forms.{IsProgram, IsInput}
 use Rattle.sierra_tool.specs.Meaning.{entry_gas}
+use Rattle.sierra_tool.specs.Rejected.{IsRejected}
 use Rattle.sierra_tool.specs.Runs.{IsAccepted, IsVerdict}
 
 -- ---- Readings: what each source gave
@@ -66,7 +67,7 @@ HasRun readings run = Holds sources.Run (readings sources.Run) (λ bytes. IsRunF
 pub record CanRun (readings : Readings) (program : Program) (input : Input) : Type 0 where
   pub program_read : HasProgram readings program
   pub input_read : HasInput readings program input
-  pub gas : entry_gas ≤ input.gas
+  pub gas : entry_gas program ≤ input.gas
 
 -- the command reads this source, and nothing that comes before it is refused
 abbrev pub ComesTo : Command → Readings → Source → Type 0
@@ -93,12 +94,12 @@ Cause (Some command) readings answers.NotBuilt =
     × Holds sources.Input (readings sources.Input) (λ text. (input : Input) → IsInput text input → ⊥))
 Cause (Some command) readings (answers.NotEnoughGas need given) =
     (program : Program) × (input : Input)
-    × HasProgram readings program × HasInput readings program input × (given < need) × (need ≡ entry_gas) × (given ≡ input.gas)
+    × HasProgram readings program × HasInput readings program input × (given < need) × (need ≡ entry_gas program) × (given ≡ input.gas)
 Cause (Some command) readings (answers.RunRefused refusal) =
     ComesTo command readings sources.Run × Holds sources.Run (readings sources.Run) (λ bytes. IsNoRunFile bytes refusal)
-Cause (Some command) readings answers.RunRejected =
+Cause (Some command) readings (answers.RunRejected fault) =
     (program : Program) × (input : Input) × (run : Run)
-    × CanRun readings program input × HasRun readings run × (IsAccepted program input run → ⊥)
+    × CanRun readings program input × HasRun readings run × IsRejected program input run fault
 Cause (Some command) readings (answers.Judged verdict) =
     (program : Program) × (input : Input) × (run : Run)
     × CanRun readings program input × HasRun readings run × IsAccepted program input run × IsVerdict program input run verdict

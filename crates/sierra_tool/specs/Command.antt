@@ -1,5 +1,5 @@
 -- The commands: how each is written and what it reads, and the status and the text of each answer.
-use Rattle.std.specs.Prelude.{ℕ, ◌≡◌, ◌^◌, Bool, List, [], ◌∷◌, Option, Some, None, IsSome, codes, decimal, if◌then◌else◌}
+use Rattle.std.specs.Prelude.{ℕ, ◌≡◌, ◌^◌, List, [], ◌∷◌, ◌++◌, Option, Some, None, IsSome, codes, decimal, if◌then◌else◌}
 use Rattle.std.specs.List.{concat}
 use Rattle.std.specs.Option.{unwrap_or}
 use Rattle.sierra_tool.specs.declared.answer.Answer.{Answer}
@@ -8,7 +8,8 @@ use Rattle.sierra_tool.specs.declared.command.Command.{Command}
 use Rattle.sierra_tool.specs.declared.command.Command.TheVariants as commands
 use Rattle.sierra_tool.specs.declared.command.Source.{Source}
 use Rattle.sierra_tool.specs.declared.command.Source.TheVariants as sources
-use Rattle.sierra_tool.specs.declared.verdict.Outcome.{Outcome}
+use Rattle.sierra_tool.specs.declared.verdict.Value.{Value}
+use Rattle.sierra_tool.specs.declared.verdict.Value.TheVariants as values
 use Rattle.sierra_tool.specs.declared.verdict.Verdict.{Verdict}
 
 -- the arguments are this command
@@ -50,17 +51,25 @@ status_of (answers.TooLong source) = 7
 status_of answers.NotBuilt = 9
 status_of (answers.NotEnoughGas need given) = 13
 status_of (answers.RunRefused refusal) = 14
-status_of answers.RunRejected = 15
+status_of (answers.RunRejected fault) = 15
 
--- the line of an outcome's values
-abbrev pub value_line : Outcome → List ℕ
-value_line outcome = concat ((if outcome.panic then codes "panic " else codes "value ") ∷ decimal outcome.value ∷ codes "\n" ∷ [])
+abbrev pub value_text : Value → List ℕ
+value_text (values.Felt n) = decimal n
+
+-- values behind others, each behind a comma and a space
+abbrev pub more_values : List Value → List ℕ
+more_values [] = []
+more_values (value ∷ others) = codes ", " ++ (value_text value ++ more_values others)
+
+abbrev pub values_text : List Value → List ℕ
+values_text [] = codes "()"
+values_text (value ∷ others) = value_text value ++ more_values others
 
 -- the verdict's four lines
 abbrev pub verdict_text : Verdict → List ℕ
 verdict_text verdict =
-    concat (value_line verdict.outcome
-    ∷ codes "gas used " ∷ decimal verdict.outcome.gas_used
+    concat ((if verdict.outcome.panic then codes "panic " else codes "value ") ∷ values_text verdict.outcome.values
+    ∷ codes "\ngas used " ∷ decimal verdict.outcome.gas_used
     ∷ codes "\nsteps " ∷ decimal verdict.steps
     ∷ codes "\nchecks " ∷ decimal verdict.checks
     ∷ codes "\n" ∷ [])
@@ -78,4 +87,4 @@ text_of command (answers.TooLong source) = file_line (codes "too long ") command
 text_of command answers.NotBuilt = codes "not built\n"
 text_of command (answers.NotEnoughGas need given) = concat (codes "need " ∷ decimal need ∷ codes " given " ∷ decimal given ∷ codes "\n" ∷ [])
 text_of command (answers.RunRefused refusal) = []
-text_of command answers.RunRejected = []
+text_of command (answers.RunRejected fault) = []

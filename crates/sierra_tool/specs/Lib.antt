@@ -3,7 +3,10 @@ pub mod Causes
 pub mod Command
 pub mod Exact
 pub mod Forms
+pub mod Honest
 pub mod Meaning
+pub mod Ranges
+pub mod Rejected
 pub mod Runs
 pub mod Scan
 pub mod Stages

@@ -1,52 +1,34 @@
--- What a program means, its code, and the verdict that a run of the code shows.
-use Rattle.std.specs.Prelude.{ℕ, ◌≡◌, ◌≤◌, ◌+◌, ◌-◌, ◌*◌, false, List, [], ◌∷◌, length, Option, Some, slice_get}
+-- A program's code, its types and the gas that it needs, the arguments that an input gives, and what the program means.
+use Rattle.std.specs.Prelude.{ℕ, ◌≡◌, ◌+◌, false, List, [], ◌∷◌, map}
 use Rattle.felt64.specs.Field.{sum}
-use Rattle.ro_machine.specs.declared.machine.State.{State}
 use Rattle.sierra_tool.specs.declared.program.Program.{Program}
 use Rattle.sierra_tool.specs.declared.input.Input.{Input}
 use Rattle.sierra_tool.specs.declared.verdict.Outcome.{Outcome}
-use Rattle.sierra_tool.specs.declared.verdict.Verdict.{Verdict}
-use Rattle.sierra_tool.specs.Values.{ValueType, felt64, Value, felt, AreOfTypes, StandBelow}
+use Rattle.sierra_tool.specs.declared.code.TheConstants.{CALL_REL, JMP_REL, ADD_IMMEDIATE, RET}
+use Rattle.sierra_tool.specs.Values.{Ty, number, felt64, Val, Number, meant}
 
 -- `call rel 4`, `jmp rel 0`, `[ap + 0] = [fp + -3] + constant, ap++`, `ret`
 abbrev pub code_of : Program → List ℕ
-code_of program = 0x1104800180018000 ∷ 4 ∷ 0x010780017fff7fff ∷ 0 ∷ 0x482680017ffd8000 ∷ program.constant ∷ 0x208b7fff7fff7ffe ∷ []
+code_of program = CALL_REL ∷ 4 ∷ JMP_REL ∷ 0 ∷ ADD_IMMEDIATE ∷ program.constant ∷ RET ∷ []
 
--- the gas that a run needs: 100 for each of its three steps
-abbrev pub entry_gas : ℕ
-entry_gas = 300
+-- the gas that a run of the program needs: 100 for each of its three steps
+abbrev pub entry_gas : Program → ℕ
+entry_gas program = 300
 
--- the arguments of main in order, and the types of its results
-abbrev pub arguments_of : Input → List Value
-arguments_of input = felt input.argument ∷ []
+-- the types of main's parameters and of its results
+abbrev pub parameter_types : Program → List Ty
+parameter_types program = number felt64 ∷ []
 
-abbrev pub result_types : List ValueType
-result_types = felt64 ∷ []
+abbrev pub result_types : Program → List Ty
+result_types program = number felt64 ∷ []
 
-abbrev pub values_of : Outcome → List Value
-values_of outcome = felt outcome.value ∷ []
+-- the arguments of main, in order
+abbrev pub arguments_of : Input → List Val
+arguments_of input = Number felt64 input.argument ∷ []
 
 -- The meaning: main gives the argument plus the constant in the field, and doesn't panic.
 pub record Means (program : Program) (input : Input) (outcome : Outcome) : Type 0 where
   pub panic : outcome.panic ≡ false
-  pub values : values_of outcome ≡ felt (sum input.argument program.constant) ∷ []
-  pub gas_used : outcome.gas_used ≡ entry_gas
+  pub values : map meant outcome.values ≡ Number felt64 (sum input.argument program.constant) ∷ []
+  pub gas_used : outcome.gas_used ≡ entry_gas program
   pub gas_left : outcome.gas_left + outcome.gas_used ≡ input.gas
-
--- The verdict that the run itself shows: its values stand in the cells that end below the last state's ap. Main
--- has no gas builtin, so its gas left is the input's less what a run needs; it has no range check builtin, so it
--- shows no checks.
-pub record Shows (input : Input) (cells : ℕ → Option ℕ) (states : List State) (verdict : Verdict) : Type 0 where
-  pub last : State
-  pub last_is : slice_get states (length states - 1) ≡ Some last
-  pub types : AreOfTypes result_types (values_of verdict.outcome)
-  pub values : StandBelow cells last.ap (values_of verdict.outcome)
-  pub panic : verdict.outcome.panic ≡ false
-  pub gas_left : verdict.outcome.gas_left + entry_gas ≡ input.gas
-  pub gas_used : verdict.outcome.gas_used ≡ entry_gas
-  pub steps : verdict.steps + 1 ≡ length states
-  pub checks : verdict.checks ≡ 0
-
--- the steps and range checks cost at most the gas used
-abbrev pub CostsAtMost : Verdict → Type 0
-CostsAtMost verdict = 100 * verdict.steps + 70 * verdict.checks ≤ verdict.outcome.gas_used

@@ -16,7 +16,9 @@ use Rattle.sierra_tool.specs.declared.program.Program.{Program}
 use Rattle.sierra_tool.specs.declared.input.Input.{Input}
 use Rattle.sierra_tool.specs.Causes.{Reading, absent, unread, found, Readings, Gives, AreReadings, Holds, IsTooLong, IsNoRunFile, Cause}
 use Rattle.sierra_tool.specs.Forms.{IsProgram, IsInput}
+use Rattle.sierra_tool.specs.Rejected.{IsRejected}
 use Rattle.sierra_tool.specs.Runs.{IsAccepted, IsVerdict}
+use Rattle.sierra_tool.specs.declared.accepted.CheckFault.{CheckFault}
 use Rattle.sierra_tool.specs.declared.verdict.Verdict.{Verdict}
 use Rattle.sierra_tool.specs.Command.{limit, status_of, text_of}
 use Rattle.sierra_tool.specs.Tool.{IsCounted, Delivers, MayHaveFirst}
@@ -86,5 +88,5 @@ IsDelivered before now command answer status =
 -- a run that was read is rejected, or its verdict is answered
 abbrev pub OfRun : Program → Input → Run → Answer → Type 0
 OfRun program input run answer =
-    ((IsAccepted program input run → ⊥) × (answer ≡ answers.RunRejected))
+    ((fault : CheckFault) × IsRejected program input run fault × (answer ≡ answers.RunRejected fault))
     ⊎ (IsAccepted program input run × ((verdict : Verdict) × IsVerdict program input run verdict × (answer ≡ answers.Judged verdict)))

@@ -1,40 +1,42 @@
--- Values, and the words that stand for them.
-use Rattle.std.specs.Prelude.{ℕ, ◌≡◌, ◌<◌, ◌-◌, List, [], ◌∷◌, ◌++◌, length, Option, slice_get}
-use Rattle.felt64.specs.Field.{modulus, difference}
+-- Types and values, and how the cells of a memory stand for a value.
+use Rattle.std.specs.Prelude.{ℕ, ◌≡◌, ◌<◌, ◌+◌, List, [], ◌∷◌, take, drop, Option, Some}
+use Rattle.felt64.specs.Field.{modulus}
+use Rattle.ro_machine.specs.Readings.{Readings}
+use Rattle.sierra_tool.specs.declared.verdict.Value.{Value}
+use Rattle.sierra_tool.specs.declared.verdict.Value.TheVariants as values
 
--- the types of the values that are built
-pub data ValueType : Type 0 where
-  felt64 : ValueType
+-- the types of numbers
+pub data Num : Type 0 where
+  felt64 : Num
 
--- a felt is a number below P
-pub data Value : Type 0 where
-  felt : ℕ → Value
+pub data Ty : Type 0 where
+  number : Num → Ty
 
-abbrev pub IsOfType : ValueType → Value → Type 0
-IsOfType felt64 (felt n) = n < modulus
+pub data Val : Type 0 where
+  Number : Num → ℕ → Val
 
--- the values are of these types, one by one
-abbrev pub AreOfTypes : List ValueType → List Value → Type 0
-AreOfTypes [] [] = Unit {0}
-AreOfTypes [] (value ∷ values) = ⊥
-AreOfTypes (type ∷ types) [] = ⊥
-AreOfTypes (type ∷ types) (value ∷ values) = IsOfType type value × AreOfTypes types values
+-- the value that the code's value means
+abbrev pub meant : Value → Val
+meant (values.Felt n) = Number felt64 n
 
--- Words stand for a value. For a felt it is one word, the number itself.
-abbrev pub Stands : (ℕ → Option ℕ) → List ℕ → Value → Type 0
-Stands cells [] (felt n) = ⊥
-Stands cells (word ∷ []) (felt n) = word ≡ n
-Stands cells (word ∷ next ∷ words) (felt n) = ⊥
+-- the numbers of a type
+abbrev pub Fits : Num → ℕ → Type 0
+Fits felt64 n = n < modulus
 
--- words stand for values, one value after another
-abbrev pub StandFor : (ℕ → Option ℕ) → List ℕ → List Value → Type 0
-StandFor cells words [] = words ≡ []
-StandFor cells words (value ∷ values) = (own : List ℕ) × (rest : List ℕ) × (words ≡ own ++ rest) × Stands cells own value × StandFor cells rest values
+-- how many cells a value of the type takes
+abbrev pub size : Ty → ℕ
+size (number k) = 1
 
--- the cells that end below this address are listed with these words
-abbrev pub AreBelow : (ℕ → Option ℕ) → ℕ → List ℕ → Type 0
-AreBelow cells top words = (k : ℕ) → k < length words → cells (difference top (length words - k)) ≡ slice_get words k
+abbrev pub sizes : List Ty → ℕ
+sizes [] = 0
+sizes (ty ∷ tys) = size ty + sizes tys
 
--- the values stand in the cells that end below this address
-abbrev pub StandBelow : (ℕ → Option ℕ) → ℕ → List Value → Type 0
-StandBelow cells top values = (words : List ℕ) × AreBelow cells top words × StandFor cells words values
+-- what is read in the memory m stands for a value of the type
+abbrev pub Stands : (ℕ → Option ℕ) → Ty → Readings → Val → Type 0
+Stands m (number k) cells v = (n : ℕ) × (cells ≡ Some n ∷ []) × (v ≡ Number k n) × Fits k n
+
+-- what is read stands for values of these types, one after another
+abbrev pub StandAll : (ℕ → Option ℕ) → List Ty → Readings → List Val → Type 0
+StandAll m [] cells vs = (cells ≡ []) × (vs ≡ [])
+StandAll m (ty ∷ tys) cells vs =
+    (v : Val) × (rest : List Val) × (vs ≡ v ∷ rest) × Stands m ty (take (size ty) cells) v × StandAll m tys (drop (size ty) cells) rest

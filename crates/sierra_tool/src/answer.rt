@@ -5,6 +5,7 @@ ghost use Rattle.std.specs.Prelude.{◌≡◌};
 ghost use Rattle.sierra_tool.specs.Command.{status_of};
 ghost use Rattle.sierra_tool.specs.declared.answer.Stop.TheVariants.{OutOfMemory};
 
+use crate::accepted::CheckFault;
 use crate::command::Source;
 use crate::verdict::Verdict;
 use run_file::FileRefusal;
@@ -32,8 +33,8 @@ pub enum Answer {
     },
     /// The bytes are no run file, by this refusal.
     RunRefused(FileRefusal),
-    /// The run is not accepted.
-    RunRejected,
+    /// The run is not accepted, for this first part that fails.
+    RunRejected(CheckFault),
 }
 
 impl Answer {
@@ -49,7 +50,7 @@ impl Answer {
             Answer::NotBuilt => 9,
             Answer::NotEnoughGas { .. } => 13,
             Answer::RunRefused(_) => 14,
-            Answer::RunRejected => 15,
+            Answer::RunRejected(_) => 15,
         }
     }
 }

@@ -8,9 +8,10 @@ ghost use Rattle.sierra_tool.specs.Stages.{ReadsSource, IsFound, IsUnfit, IsRefu
 ghost use Rattle.sierra_tool.specs.declared.command.Command.TheVariants as commands;
 
 use crate::answer::{Answer, Stop};
+use crate::code::entry_gas;
 use crate::command::{Check, Source};
 use crate::input::{Input, read_input};
-use crate::judge::{ENTRY_GAS, of_run};
+use crate::judge::of_run;
 use crate::program::{Program, read_program};
 use edge_io::{Files, ReadFault, read_all};
 use run_file::{FileRefusal, Run};
@@ -23,14 +24,15 @@ impl Check<'_> {
     {
         let program = program(alloc, files, self.program)?;
         let input = input(alloc, files, self.input)?;
-        if input.gas < ENTRY_GAS {
+        let need = entry_gas(&program);
+        if input.gas < need {
             return Err(Stop::Refused(Answer::NotEnoughGas {
-                need: u64::from(ENTRY_GAS),
+                need: u64::from(need),
                 given: u64::from(input.gas),
             }));
         }
         let run = run(alloc, files, self.run)?;
-        Ok(of_run(&program, &input, &run))
+        Ok(of_run(alloc, &program, &input, &run)?)
     }
 }
 

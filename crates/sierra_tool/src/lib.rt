@@ -7,6 +7,7 @@
 mod accepted;
 mod answer;
 mod check;
+mod code;
 mod command;
 mod input;
 mod judge;
@@ -17,13 +18,16 @@ mod scan;
 mod tool;
 mod verdict;
 
+pub use accepted::CheckFault;
 pub use answer::Answer;
 pub use command::{Check, Command, Source};
 pub use input::Input;
-pub use laws::{accepted_runs_mean, one_answer, some_answer};
+pub use laws::{
+    accepted_runs_mean, honest_runs_are_accepted, one_answer, runs_have_one_cause, some_answer,
+};
 pub use program::Program;
 pub use tool::{Shelf, sierra_tool};
-pub use verdict::{Outcome, Verdict};
+pub use verdict::{Outcome, Value, Values, Verdict};
 
 #[cfg(test)]
 mod tests;

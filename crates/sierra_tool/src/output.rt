@@ -4,13 +4,13 @@
 ghost use Rattle.std.specs.Prelude.{◌≡◌, ◌++◌, [], ◌∷◌, Some, IfOk, string_bytes};
 ghost use Rattle.std.specs.Option.{unwrap_or};
 ghost use Rattle.edge_io.specs.Sinks.{Writes};
-ghost use Rattle.sierra_tool.specs.Command.{name_of, value_line, verdict_text, text_of};
+ghost use Rattle.sierra_tool.specs.Command.{name_of, value_text, values_text, verdict_text, text_of};
 ghost use Rattle.sierra_tool.specs.Stages.{IsWritten};
 ghost use Rattle.sierra_tool.specs.declared.output.Unwritten.TheVariants as unwritten;
 
 use crate::answer::Answer;
 use crate::command::{Command, Source};
-use crate::verdict::{Outcome, Verdict};
+use crate::verdict::{Value, Verdict};
 use edge_io::{Failed, Sink, write_all};
 use std::alloc::{AllocError, Global};
 use std::fmt;
@@ -40,30 +40,13 @@ impl From<AllocError> for Unwritten {
     }
 }
 
-/// The line of the values.
-impl fmt::Display for Outcome {
-    ghost output = { λ outcome. Some (value_line outcome) };
+impl fmt::Display for Value {
+    ghost output = { λ value. Some (value_text value) };
 
     fn fmt<W: fmt::Write>(&self, f: &mut fmt::Formatter<W>) -> fmt::Result {
-        let word = if self.panic { "panic" } else { "value" };
-        let value = self.value.value();
-        write!(f, "{word} {value}\n")
-    }
-}
-
-/// The four lines.
-impl fmt::Display for Verdict {
-    ghost output = { λ verdict. Some (verdict_text verdict) };
-
-    fn fmt<W: fmt::Write>(&self, f: &mut fmt::Formatter<W>) -> fmt::Result {
-        let outcome = &self.outcome;
-        let gas = self.outcome.gas_used;
-        let steps = self.steps;
-        let checks = self.checks;
-        write!(
-            f,
-            "{outcome}gas used {gas}\nsteps {steps}\nchecks {checks}\n"
-        )
+        match self {
+            Value::Felt(n) => fmt::Display::fmt(n, f),
+        }
     }
 }
 
@@ -90,14 +73,42 @@ fn text(alloc: Global, command: &Command, answer: &Answer) -> Result<String, All
     ensures { IfOk result (λ text. string_bytes text ≡ text_of (Some command.now) answer.now) }
 {
     match answer {
-        Answer::Judged(verdict) => verdict.to_string(alloc),
+        Answer::Judged(verdict) => verdict_text(alloc, verdict),
         Answer::Missing(source) => line(alloc, "missing ", name(command, *source)),
         Answer::ReadFault(source) => line(alloc, "read fault ", name(command, *source)),
         Answer::TooLong(source) => line(alloc, "too long ", name(command, *source)),
         Answer::NotBuilt => String::from_str(alloc, "not built\n"),
         Answer::NotEnoughGas { need, given } => format!(in alloc; "need {need} given {given}\n"),
-        Answer::RunRefused(_) | Answer::RunRejected => Ok(String::new(alloc)),
+        Answer::RunRefused(_) | Answer::RunRejected(_) => Ok(String::new(alloc)),
     }
+}
+
+/// The verdict's four lines.
+fn verdict_text(alloc: Global, verdict: &Verdict) -> Result<String, AllocError>
+    ensures { IfOk result (λ text. string_bytes text ≡ verdict_text verdict.now) }
+{
+    let outcome = &verdict.outcome;
+    let word = if outcome.panic { "panic" } else { "value" };
+    let values = values_text(alloc, outcome.values.as_slice())?;
+    let gas = outcome.gas_used;
+    let steps = verdict.steps;
+    let checks = verdict.checks;
+    format!(in alloc; "{word} {values}\ngas used {gas}\nsteps {steps}\nchecks {checks}\n")
+}
+
+/// The values, with a comma and a space between two, or `()` where there is none.
+fn values_text(alloc: Global, values: &[Value]) -> Result<String, AllocError>
+    ensures { IfOk result (λ text. string_bytes text ≡ values_text values.now) }
+{
+    let Some((first, others)) = values.split_first() else {
+        return String::from_str(alloc, "()");
+    };
+    let mut text = first.to_string(alloc)?;
+    for value in others {
+        text.push_str(", ")?;
+        text.push_str(value.to_string(alloc)?.as_str())?;
+    }
+    Ok(text)
 }
 
 /// The name of a source's file, which is empty for a source that the command doesn't read.

@@ -1,7 +1,7 @@
 use Rattle.std.proofs.Common.{◌≡◌, ℕ, ◌<◌}
 use Rattle.std.specs.List.{slice_get}
 use Rattle.std.specs.FinMap.{get}
-use Rattle.sierra_tool.proofs.accepted.holds_code.Given as goal
+use Rattle.sierra_tool.proofs.accepted.test_code.Given as goal
 
 -- the first words are listed
 abbrev pub invariant-loop-at : goal.invariant-loop-at

@@ -1,0 +1,210 @@
+-- The honest run is accepted, shows a verdict, and lists no cell that isn't needed.
+use Rattle.std.proofs.Common.{◌≡◌, ◌≢◌, inl, inr, ℕ, zero, suc, ◌+◌, ◌-◌, ◌<◌, ◌≤◌, List, [], ◌∷◌, ◌++◌, Option, Some, slice_get, refl, sym, subst, ◌∙◌, arith, pos, true, false, cond, ◌*◌, ◌^◌}
+use Rattle.std.specs.FinMap.{get, find, get-from_sorted}
+use Rattle.std.specs.Ordering.{nat_cmp, eq_by_cmp}
+use Rattle.std.proofs.lemmas.Bool.Decides.{nat_tests}
+use Rattle.std.proofs.lemmas.Option.{slice_get_within}
+use Rattle.felt64.specs.Field.{modulus, sum}
+use Rattle.ro_machine.specs.declared.machine.State.{State}
+use Rattle.ro_machine.specs.Step.{Step}
+use Rattle.casm_word.specs.declared.instr.Operand.TheVariants as operand
+use Rattle.casm_word.specs.declared.instr.Res.TheVariants as res
+use Rattle.casm_word.specs.declared.instr.Instr.{Instr}
+use Rattle.casm_word.specs.declared.instr.Instr.TheVariants as instr
+use Rattle.casm_word.specs.Encoding.{flags_of, ap_cell, fp_cell}
+use Rattle.casm_word.specs.Offset.{minus}
+use Rattle.casm_word.proofs.EncodingLaws.{instr_word}
+use Rattle.std.proofs.lemmas.Int.{ints}
+use Rattle.sierra_tool.specs.declared.program.Program.{Program}
+use Rattle.sierra_tool.specs.declared.input.Input.{Input}
+use Rattle.sierra_tool.specs.declared.verdict.Verdict.{Verdict}
+use Rattle.sierra_tool.specs.declared.verdict.Value.TheVariants as values
+use Rattle.sierra_tool.specs.declared.code.TheConstants.{CALL_REL, ADD_IMMEDIATE, RET}
+use Rattle.sierra_tool.specs.Accepted.{GoesOn, Follows, final_pc, range_limit}
+use Rattle.sierra_tool.specs.Honest.{execution_start, first_frame, cells_from, execution_of, honest_states, honest_run, IsNeeded}
+use Rattle.sierra_tool.specs.Meaning.{entry_gas, code_of, parameter_types}
+use Rattle.sierra_tool.specs.Runs.{IsAccepted, IsVerdict}
+use Rattle.sierra_tool.proofs.Soundness.{soundness, shows_it}
+use Rattle.sierra_tool.proofs.ValueLaws.{stands_below}
+
+-- keys that tie are one
+same_key : (at key : ℕ) → eq_by_cmp nat_cmp at key ≡ true → at ≡ key
+same_key at key same = grind (arith, nat_tests)
+
+module _ (program : Program) (input : Input) where
+  abbrev listed_cells : List (ℕ × ℕ)
+  listed_cells = cells_from 0 (code_of program) ++ cells_from execution_start (execution_of program input)
+
+  abbrev m : ℕ → Option ℕ
+  m = get (honest_run program input).memory
+
+  look : (at : ℕ) → m at ≡ find nat_cmp at listed_cells
+  look at = get-from_sorted nat_cmp listed_cells at tt
+
+  code_cell : (k : ℕ) → k < 7 → m k ≡ slice_get (code_of program) k
+  code_cell zero below = look 0
+  code_cell (suc zero) below = look 1
+  code_cell (suc (suc zero)) below = look 2
+  code_cell (suc (suc (suc zero))) below = look 3
+  code_cell (suc (suc (suc (suc zero)))) below = look 4
+  code_cell (suc (suc (suc (suc (suc zero))))) below = look 5
+  code_cell (suc (suc (suc (suc (suc (suc zero)))))) below = look 6
+  code_cell (suc (suc (suc (suc (suc (suc (suc k))))))) below = absurd (omega arith)
+
+  -- the four states
+  abbrev at_call : State
+  at_call = record { pc = 0; ap = first_frame; fp = first_frame }
+
+  abbrev at_sum : State
+  at_sum = record { pc = 4; ap = first_frame + 2; fp = first_frame + 2 }
+
+  abbrev at_return : State
+  at_return = record { pc = 6; ap = first_frame + 3; fp = first_frame + 2 }
+
+  abbrev at_end : State
+  at_end = record { pc = 2; ap = first_frame + 3; fp = first_frame }
+
+  abbrev call : Instr
+  call = instr.Call true (operand.Imm 4)
+
+  abbrev add : Instr
+  add = instr.AssertEq (ap_cell (pos 0)) (res.Add (fp_cell (minus 3)) (operand.Imm program.constant)) true
+
+  call_step : Step m at_call at_sum
+  call_step = record {
+    word = CALL_REL;
+    word_is = look 0;
+    flags = flags_of call;
+    decodes = instr_word call tt;
+    op0 = 2;
+    op1 = 4;
+    dst = first_frame;
+    reads = record { op0_is = look (first_frame + 1); op1_is = look 1; dst_is = look first_frame };
+    asserts = (refl, refl);
+    next = refl;
+  }
+
+  sum_step : Step m at_sum at_return
+  sum_step = record {
+    word = ADD_IMMEDIATE;
+    word_is = look 4;
+    flags = flags_of add;
+    decodes = instr_word add (omega (arith, ints), (omega (arith, ints), tt));
+    op0 = input.argument;
+    op1 = program.constant;
+    dst = sum input.argument program.constant;
+    reads = record { op0_is = look execution_start; op1_is = look 5; dst_is = look (first_frame + 2) };
+    asserts = refl;
+    next = refl;
+  }
+
+  return_step : Step m at_return at_end
+  return_step = record {
+    word = RET;
+    word_is = look 6;
+    flags = flags_of instr.Ret;
+    decodes = instr_word instr.Ret tt;
+    op0 = 2;
+    op1 = 2;
+    dst = first_frame;
+    reads = record { op0_is = look (first_frame + 1); op1_is = look (first_frame + 1); dst_is = look first_frame };
+    asserts = tt;
+    next = refl;
+  }
+
+  -- a state with a pc other than the end's, from which a step leads to its follower, goes on
+  goes : (s t s' t' : State) → s.pc ≢ final_pc → Step m s t → Some s ≡ Some s' → Some t ≡ Some t' → GoesOn m s' t'
+  goes s t s' t' not_early step same same_follower =
+      let s_is : s ≡ s' = cc in
+      let t_is : t ≡ t' = cc in
+      subst (λ u. GoesOn m s' u) t_is (subst (λ u. GoesOn m u t) s_is (record { not_early = not_early; next = t; step = step; next_is = refl }))
+
+  all_go_on : (i : ℕ) (s t : State) → Follows honest_states i s t → GoesOn m s t
+  all_go_on zero s t pair = goes at_call at_sum s t (λ e. absurd (omega arith)) call_step pair.here pair.after
+  all_go_on (suc zero) s t pair = goes at_sum at_return s t (λ e. absurd (omega arith)) sum_step pair.here pair.after
+  all_go_on (suc (suc zero)) s t pair = goes at_return at_end s t (λ e. absurd (omega arith)) return_step pair.here pair.after
+  all_go_on (suc (suc (suc i))) s t pair = let within = slice_get_within honest_states (suc (suc (suc i)) + 1) t pair.after in absurd (omega arith)
+
+  no_range_cell : (k word : ℕ) → k < 4 → m (sum (2 * 2 ^ 32) k) ≡ Some word → word < range_limit
+  no_range_cell zero word below listed = let none = look (2 * 2 ^ 32) in cc
+  no_range_cell (suc zero) word below listed = let none = look (2 * 2 ^ 32 + 1) in cc
+  no_range_cell (suc (suc zero)) word below listed = let none = look (2 * 2 ^ 32 + 2) in cc
+  no_range_cell (suc (suc (suc zero))) word below listed = let none = look (2 * 2 ^ 32 + 3) in cc
+  no_range_cell (suc (suc (suc (suc k)))) word below listed = absurd (omega arith)
+
+  pub accepted : program.constant < modulus → input.argument < modulus → IsAccepted program input (honest_run program input)
+  accepted constant_fits argument_fits = record {
+    few = omega arith;
+    code_cells = code_cell;
+    base = first_frame;
+    start = refl;
+    argument_cells = stands_below m first_frame input.argument argument_fits (look execution_start);
+    goes_on = all_go_on;
+    final = (at_end, refl, refl);
+    range_cells = λ k below word listed. no_range_cell k word below listed;
+  }
+
+  pub shown : program.constant < modulus → input.argument < modulus → entry_gas program ≤ input.gas → (verdict : Verdict) × IsVerdict program input (honest_run program input) verdict
+  shown constant_fits argument_fits enough =
+      let accepts = accepted constant_fits argument_fits in
+      let verdict : Verdict = record {
+        outcome = record { panic = false; values = values.Felt (sum input.argument program.constant) ∷ []; gas_left = input.gas - 300; gas_used = 300 };
+        steps = 3;
+        checks = 0;
+      } in
+      let shows = shows_it program input (2 * 2 ^ 32) m honest_states accepts verdict refl refl (omega arith) refl refl refl in
+      let means = soundness program input (2 * 2 ^ 32) m honest_states accepts verdict shows in
+      (verdict, record { shown = shows; meant = means.0; cost = means.1 })
+
+  -- what is so of each key of a list is so of each key that is found
+  abbrev AllKeys : (ℕ → Type 0) → List (ℕ × ℕ) → Type 0
+  AllKeys P [] = Unit {0}
+  AllKeys P (e ∷ es) = P e.0 × AllKeys P es
+
+  found_key : (P : ℕ → Type 0) (es : List (ℕ × ℕ)) (at word : ℕ) → AllKeys P es → find nat_cmp at es ≡ Some word → P at
+  found_key P [] at word all found = absurd cc
+  found_key P (e ∷ es) at word all found =
+      elim (eq_by_cmp nat_cmp at e.0) as (λ b. eq_by_cmp nat_cmp at e.0 ≡ b → cond b (Some e.1) (find nat_cmp at es) ≡ Some word → P at) [
+        | true ↦ λ same is. subst P (sym (same_key at e.0 same)) all.0
+        | false ↦ λ other is. found_key P es at word all.1 is
+      ] refl found
+
+  abbrev Needed : ℕ → Type 0
+  Needed at = IsNeeded (code_of program) (parameter_types program) m honest_states at
+
+  all_needed : AllKeys Needed listed_cells
+  unfolding call_step sum_step
+  all_needed = (
+    inl (omega arith),
+    (
+      inl (omega arith),
+      (
+        inl (omega arith),
+        (
+          inl (omega arith),
+          (
+            inl (omega arith),
+            (
+              inl (omega arith),
+              (
+                inl (omega arith),
+                (
+                  inr (inl (first_frame, 0, refl, omega arith, refl)),
+                  (
+                    inr (inr (0, at_call, at_sum, record { here = refl; after = refl }, (call_step, inr (inr (inr refl))))),
+                    (
+                      inr (inr (0, at_call, at_sum, record { here = refl; after = refl }, (call_step, inr (inl refl)))),
+                      (inr (inr (1, at_sum, at_return, record { here = refl; after = refl }, (sum_step, inr (inr (inr refl))))), tt),
+                    ),
+                  ),
+                ),
+              ),
+            ),
+          ),
+        ),
+      ),
+    ),
+  )
+
+  pub needed : (at word : ℕ) → m at ≡ Some word → Needed at
+  needed at word listed = found_key Needed listed_cells at word all_needed (sym (look at) ∙ listed)
