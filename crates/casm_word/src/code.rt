@@ -58,7 +58,7 @@ impl Code {
     }
 }
 
-/// The words of a code as they lie in memory: of each instruction its word, and behind it its immediate.
+/// The words of a code as they lie in memory: of each instruction its word, and after it its immediate.
 pub fn words(alloc: Global, code: &Code) -> Result<Vec<u64>, AllocError>
     ensures { IfOk result (λ words. words.items ≡ flat_map words_of code.now) }
 {
