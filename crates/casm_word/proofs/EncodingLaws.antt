@@ -87,5 +87,5 @@ instr_word (instr.Call rel to) near =
 instr_word (instr.AddAp by) near =
     with_word unused (sources_of by) pc.Next apk.Add opcode.Nop unused_near (sources_near by near) (λ is. cc) (λ is. cc)
 instr_word instr.Ret near =
-    with_word (fp_cell (minus 2)) (with_operand unused (operand.Cell (fp_cell (minus 1))) kind.Op1) pc.Abs apk.Keep opcode.Ret (omega (arith, ints)) (with_operand_near unused (operand.Cell (fp_cell (minus 1))) kind.Op1 unused_near (omega (arith, ints)))
+    with_word (fp_cell (minus 2)) (sources_of (res.Cell (fp_cell (minus 1)))) pc.Abs apk.Keep opcode.Ret (omega (arith, ints)) (sources_near (res.Cell (fp_cell (minus 1))) (omega (arith, ints)))
     (λ is. cc) (λ is. cc)

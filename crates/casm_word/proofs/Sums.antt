@@ -13,7 +13,7 @@ use Rattle.casm_word.specs.declared.flags.ApKind.TheVariants as apk
 use Rattle.casm_word.specs.declared.flags.Opcode.{Opcode}
 use Rattle.casm_word.specs.declared.flags.Opcode.TheVariants as opcode
 use Rattle.casm_word.specs.Offset.{IsNear}
-use Rattle.casm_word.specs.Word.{biased, set_if, op1_flag, res_flag, pc_flag, ap_flag, opcode_flag}
+use Rattle.casm_word.specs.Word.{biased, flag_if, op1_flag, res_flag, pc_flag, ap_flag, opcode_flag}
 use Rattle.casm_word.specs.Decoding.{field, unbiased}
 use Rattle.casm_word.proofs.Fields.{field_is, split_field}
 
@@ -89,7 +89,7 @@ opcode_adds opcode.Call = record { below = omega arith; flag_is = refl }
 opcode_adds opcode.Ret = record { below = omega arith; flag_is = refl }
 opcode_adds opcode.AssertEq = record { below = omega arith; flag_is = refl }
 
-pub bit_adds : (x : Bool) (k : ℕ) → Adds (bit_code x) 2 (set_if x k) (2 ^ (48 + k))
+pub bit_adds : (x : Bool) (k : ℕ) → Adds (bit_code x) 2 (flag_if x k) (2 ^ (48 + k))
 unfolding bit_code
 bit_adds true k = record { below = omega arith; flag_is = omega arith }
 bit_adds false k = record { below = omega arith; flag_is = omega arith }

@@ -14,7 +14,7 @@ pub decoded_high : (word : ℕ) → 2 ^ 63 ≤ word → decoded word ≡ Err Hig
 unfolding decoded
 decoded_high word above = ap (λ b. cond b (Err HighBit) (flags_by word (kinds_in word))) (le-leb (2 ^ 63) word above)
 
--- decoding gives flags if and only if the word stands for them
+-- decoding gives flags if and only if they have the word
 pub decodes : (f : Flags) (word : ℕ) → (decoded word ≡ Ok f) ↔ Word f word
 decodes f word = (
   λ is. elim (cases_lt word (2 ^ 63)) [
@@ -24,19 +24,19 @@ decodes f word = (
   word_decodes f word,
 )
 
--- a word stands for one list of flags
+-- no two lists of flags have the same word
 pub one_flags : (f g : Flags) (word : ℕ) → Word f word → Word g word → f ≡ g
 one_flags f g word to_f to_g =
     let same = sym (word_decodes f word to_f) ∙ word_decodes g word to_g in
     cc
 
--- a word that stands for flags meets no rule, and has no bit 63
+-- the word of flags meets no rule, and has no bit 63
 pub defined_word : (f : Flags) (word : ℕ) → Word f word → (word < 2 ^ 63) × ((rule : Rule) → ¬ Meets rule word)
 defined_word f word w =
     let below = word_below f word w in
     (below, (subst (Means word) (word_decodes f word w) (decoded_means word (omega arith))).1)
 
--- every word of 63 bits that meets no rule stands for flags
+-- every word of 63 bits that meets no rule is the word of some flags
 pub word_has_flags : (word : ℕ) → word < 2 ^ 63 → ((rule : Rule) → ¬ Meets rule word) → (f : Flags) × Word f word
 word_has_flags word below meets_none =
     elim (decoded word) as (λ r. Means word r → (f : Flags) × Word f word) [

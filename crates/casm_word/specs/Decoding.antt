@@ -23,7 +23,7 @@ use Rattle.casm_word.specs.declared.decoding.Kinds.{Kinds}
 abbrev pub field : ℕ → ℕ → ℕ → ℕ
 field word at count = word / 2 ^ at % 2 ^ count
 
--- the offset that stands so in a word
+-- the offset of which this is the number in a word, with 2 ^ 15 added
 abbrev pub unbiased : ℕ → ℤ
 unbiased n = if nat_lt n (2 ^ 15) then negsuc (2 ^ 15 - 1 - n) else pos (n - 2 ^ 15)
 
@@ -74,7 +74,7 @@ kinds_of op1_found res_found pc_found ap_found opcode_found = do
 abbrev pub kinds_in : ℕ → Result Kinds Rule
 kinds_in word = kinds_of (op1_in word) (res_in word) (pc_in word) (ap_in word) (opcode_in word)
 
--- pc_jnz stands beside a res flag, an opcode or ap_add
+-- pc_jnz beside a res flag, an opcode or ap_add
 abbrev pub jnz_beside_others : PcKind → ResKind → Opcode → ApKind → Bool
 jnz_beside_others pc.Next res opcode ap = false
 jnz_beside_others pc.Abs res opcode ap = false

@@ -36,7 +36,7 @@ ap_cell off = record { reg = reg.Ap; off = off }
 abbrev pub fp_cell : ℤ → CellRef
 fp_cell off = record { reg = reg.Fp; off = off }
 
--- the cell that stands where an instruction has no dst or no op0
+-- the cell that the machine reads as dst or op0 where the instruction has none
 abbrev pub unused : CellRef
 unused = fp_cell (minus 1)
 
@@ -88,7 +88,7 @@ flags_of (instr.Jump rel to ap_inc) = flags_with unused (sources_of to) (jump_ki
 flags_of (instr.Jnz cond to ap_inc) = flags_with cond (with_operand unused to kind.Op1) pc.Jnz (inc_kind ap_inc) opcode.Nop
 flags_of (instr.Call rel to) = flags_with (ap_cell (pos 0)) (with_operand (ap_cell (pos 1)) to kind.Op1) (jump_kind rel) ap.Keep opcode.Call
 flags_of (instr.AddAp by) = flags_with unused (sources_of by) pc.Next ap.Add opcode.Nop
-flags_of instr.Ret = flags_with (fp_cell (minus 2)) (with_operand unused (operand.Cell (fp_cell (minus 1))) kind.Op1) pc.Abs ap.Keep opcode.Ret
+flags_of instr.Ret = flags_with (fp_cell (minus 2)) (sources_of (res.Cell (fp_cell (minus 1)))) pc.Abs ap.Keep opcode.Ret
 
 abbrev pub operand_immediate : Operand → Option ℕ
 operand_immediate (operand.Cell cell) = None
@@ -113,6 +113,6 @@ immediate instr.Ret = None
 abbrev pub encoded : Instr → Encoded
 encoded i = record { word = word_of (flags_of i); imm = immediate i }
 
--- the words of an instruction as they lie in the code: its word, and behind it its immediate
+-- the words of an instruction as they lie in memory: its word, and after it its immediate
 abbrev pub words_of : Instr → List ℕ
 words_of i = word_of (flags_of i) ∷ option_to_list (immediate i)

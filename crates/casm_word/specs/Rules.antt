@@ -17,7 +17,7 @@ Has word k = IsBitSet word (48 + k)
 abbrev pub HasTwo : ℕ → ℕ → ℕ → ℕ → Type 0
 HasTwo word i j k = (Has word i × Has word j) ⊎ (Has word i × Has word k) ⊎ (Has word j × Has word k)
 
--- the offset of op1, as it stands in a word
+-- the offset of op1, with 2 ^ 15 added
 abbrev pub op1_offset_in : ℕ → ℕ
 op1_offset_in word = word / 2 ^ 32 % 2 ^ 16
 

@@ -61,43 +61,43 @@ opcode_ret = 13
 abbrev pub opcode_assert_eq : ℕ
 opcode_assert_eq = 14
 
--- what a set flag adds to a word
-abbrev pub set : ℕ → ℕ
-set k = 2 ^ (48 + k)
+-- what flag k adds to a word where it is set
+abbrev pub flag : ℕ → ℕ
+flag k = 2 ^ (48 + k)
 
-abbrev pub set_if : Bool → ℕ → ℕ
-set_if true k = set k
-set_if false k = 0
+abbrev pub flag_if : Bool → ℕ → ℕ
+flag_if true k = flag k
+flag_if false k = 0
 
 abbrev pub op1_flag : Op1 → ℕ
 op1_flag op1.Op0 = 0
-op1_flag op1.Imm = set op1_imm
-op1_flag op1.Fp = set op1_fp
-op1_flag op1.Ap = set op1_ap
+op1_flag op1.Imm = flag op1_imm
+op1_flag op1.Fp = flag op1_fp
+op1_flag op1.Ap = flag op1_ap
 
 abbrev pub res_flag : ResKind → ℕ
 res_flag res.Op1 = 0
-res_flag res.Add = set res_add
-res_flag res.Mul = set res_mul
+res_flag res.Add = flag res_add
+res_flag res.Mul = flag res_mul
 
 abbrev pub pc_flag : PcKind → ℕ
 pc_flag pc.Next = 0
-pc_flag pc.Abs = set pc_jump_abs
-pc_flag pc.Rel = set pc_jump_rel
-pc_flag pc.Jnz = set pc_jnz
+pc_flag pc.Abs = flag pc_jump_abs
+pc_flag pc.Rel = flag pc_jump_rel
+pc_flag pc.Jnz = flag pc_jnz
 
 abbrev pub ap_flag : ApKind → ℕ
 ap_flag ap.Keep = 0
-ap_flag ap.Add = set ap_add
-ap_flag ap.Inc = set ap_add1
+ap_flag ap.Add = flag ap_add
+ap_flag ap.Inc = flag ap_add1
 
 abbrev pub opcode_flag : Opcode → ℕ
 opcode_flag opcode.Nop = 0
-opcode_flag opcode.Call = set opcode_call
-opcode_flag opcode.Ret = set opcode_ret
-opcode_flag opcode.AssertEq = set opcode_assert_eq
+opcode_flag opcode.Call = flag opcode_call
+opcode_flag opcode.Ret = flag opcode_ret
+opcode_flag opcode.AssertEq = flag opcode_assert_eq
 
--- an offset plus 2 ^ 15, as it stands in a word
+-- an offset with 2 ^ 15 added, as a word has it
 abbrev pub biased : ℤ → ℕ
 biased (pos n) = 2 ^ 15 + n
 biased (negsuc n) = 2 ^ 15 - suc n
@@ -106,7 +106,7 @@ biased (negsuc n) = 2 ^ 15 - suc n
 abbrev pub word_of : Flags → ℕ
 word_of f =
     biased f.off_dst + biased f.off_op0 * 2 ^ 16 + biased f.off_op1 * 2 ^ 32
-    + set_if f.dst_fp dst_reg + set_if f.op0_fp op0_reg
+    + flag_if f.dst_fp dst_reg + flag_if f.op0_fp op0_reg
     + op1_flag f.op1 + res_flag f.res + pc_flag f.pc + ap_flag f.ap + opcode_flag f.opcode
 
 -- each offset has 16 bits; without this two flags would sum to one word
@@ -115,7 +115,7 @@ pub record AreNear (f : Flags) : Type 0 where
   pub op0 : IsNear f.off_op0
   pub op1 : IsNear f.off_op1
 
--- The word stands for these flags. A number for which no flags have this is no word of the machine.
+-- These flags have this word. A number that no flags have is no word of the machine.
 pub record Word (f : Flags) (word : ℕ) : Type 0 where
   pub is : word_of f ≡ word
   pub near : AreNear f

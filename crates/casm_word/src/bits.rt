@@ -2,7 +2,7 @@
 //! (Cairo whitepaper, section 4.4). Encoding and decoding share it.
 
 ghost use Rattle.std.specs.Prelude.{◌≡◌, ◌<◌};
-ghost use Rattle.casm_word.specs.Word.{set, set_if};
+ghost use Rattle.casm_word.specs.Word.{flag, flag_if};
 
 /// The bit of flag 0.
 pub const FLAGS: u32 = 48;
@@ -37,18 +37,18 @@ pub const OPCODE_RET: u32 = 13;
 
 pub const OPCODE_ASSERT_EQ: u32 = 14;
 
-/// The word in which this flag alone is set.
-pub fn set(flag: u32) -> u64
-    requires { flag < 16 }
-    ensures { result ≡ set flag }
+/// The number whose one bit is that of flag `k`.
+pub fn flag(k: u32) -> u64
+    requires { k < 16 }
+    ensures { result ≡ flag k }
 {
-    1 << (FLAGS + flag)
+    1 << (FLAGS + k)
 }
 
-/// The same where the condition holds, and else 0.
-pub fn set_if(condition: bool, flag: u32) -> u64
-    requires { flag < 16 }
-    ensures { result ≡ set_if condition flag }
+/// The same if the condition holds, and else 0.
+pub fn flag_if(condition: bool, k: u32) -> u64
+    requires { k < 16 }
+    ensures { result ≡ flag_if condition k }
 {
-    if condition { set(flag) } else { 0 }
+    if condition { flag(k) } else { 0 }
 }

@@ -21,7 +21,7 @@ pub enum Side {
     Imm(u64),
 }
 
-/// An expression that stands for one word. Sums, differences and products are the field's.
+/// An expression for one word. Sums, differences and products are the field's.
 #[derive(Clone, Copy, Debug, PartialEq, Eq)]
 pub enum CellExpr {
     /// The word of the cell.

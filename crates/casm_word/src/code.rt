@@ -1,8 +1,9 @@
 //! Code as a list of instructions.
 //! The reader of CASM text, the lowerings and the layout make it; its words go to the memory of a run.
 
-ghost use Rattle.std.specs.Prelude.{◌≡◌, List, [], ◌∷◌, ◌++◌, IfOk, OnOk, OnErr};
+ghost use Rattle.std.specs.Prelude.{◌≡◌, ◌<◌, List, [], ◌∷◌, ◌++◌, IfOk, OnOk, OnErr};
 ghost use Rattle.std.specs.List.{All, flat_map};
+ghost use Rattle.felt64.specs.Field.{modulus};
 ghost use Rattle.casm_word.specs.Bounds.{IsInstrInField};
 ghost use Rattle.casm_word.specs.Encoding.{words_of};
 
@@ -58,17 +59,28 @@ impl Code {
     }
 }
 
-/// The words of a code as they lie in memory: of each instruction its word, and behind it its immediate.
+/// The words of a code as they lie in memory: of each instruction its word, and after it its immediate.
 pub fn words(alloc: Global, code: &Code) -> Result<Vec<u64>, AllocError>
-    ensures { IfOk result (λ words. words.items ≡ flat_map words_of code.now) }
+    ensures words { IfOk result (λ words. words.items ≡ flat_map words_of code.now) }
+    ensures in_field { IfOk result (λ words. All (λ word. word < modulus) words.items) }
 {
     let mut words = Vec::with_capacity(alloc, code.instrs().len())?;
     for i in code.instrs() {
-        let encoded = encode(i);
-        words.push(encoded.word)?;
-        if let Some(imm) = encoded.imm {
-            words.push(imm)?;
-        }
+        push_words(&mut words, i)?;
     }
     Ok(words)
+}
+
+/// Adds the words of one instruction at the end.
+fn push_words(words: &mut Vec<u64>, i: &Instr) -> Result<(), AllocError>
+    requires { IsInstrInField i.now }
+    ensures words { OnOk result (words.new.items ≡ words.old.items ++ words_of i.now) }
+    ensures in_field { OnOk result (All (λ word. word < modulus) (words_of i.now)) }
+{
+    let encoded = encode(i);
+    words.push(encoded.word)?;
+    if let Some(imm) = encoded.imm {
+        words.push(imm)?;
+    }
+    Ok(())
 }

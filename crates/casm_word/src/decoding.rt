@@ -4,7 +4,7 @@
 ghost use Rattle.std.specs.Prelude.{◌≡◌, ◌+◌, ◌^◌, ◌<◌, ◌≤◌, ◌↔◌};
 ghost use Rattle.casm_word.specs.Word.{Word};
 ghost use Rattle.casm_word.specs.Rules.{HasHighBit, IsUndefinedBy};
-ghost use Rattle.casm_word.specs.Decoding.{field, unbiased, one_of_three, one_of_two, kinds_in, broken_rule, jnz_beside_others, call_beside_ap_flag, decoded};
+ghost use Rattle.casm_word.specs.Decoding.{field, unbiased, one_of_three, one_of_two, op1_in, res_in, pc_in, ap_in, opcode_in, kinds_in, broken_rule, jnz_beside_others, call_beside_ap_flag, decoded};
 
 use crate::bits;
 use crate::flags::{ApKind, Flags, Op1, Opcode, PcKind, ResKind};
@@ -31,7 +31,7 @@ fn field(word: u64, at: u32, count: u32) -> u64
     (word >> at) & ((1 << count) - 1)
 }
 
-/// The offset in the 16 bits from bit `at` on, where it stands with 2^15 added.
+/// The offset in the 16 bits from bit `at` on, which have it with 2^15 added.
 fn offset(word: u64, at: u32) -> i16
     requires { at + 16 ≤ 64 }
     ensures { result ≡ unbiased (field word at 16) }
@@ -64,51 +64,59 @@ fn one_of_two<T: Copy>(bits: u64, none: T, first: T, second: T) -> Option<T>
     }
 }
 
+fn op1_in(word: u64) -> Option<Op1>
+    ensures { result ≡ op1_in word }
+{
+    let flags = field(word, bits::FLAGS + bits::OP1_IMM, 3);
+    one_of_three(flags, Op1::Op0, Op1::Imm, Op1::Fp, Op1::Ap)
+}
+
+fn res_in(word: u64) -> Option<ResKind>
+    ensures { result ≡ res_in word }
+{
+    let flags = field(word, bits::FLAGS + bits::RES_ADD, 2);
+    one_of_two(flags, ResKind::Op1, ResKind::Add, ResKind::Mul)
+}
+
+fn pc_in(word: u64) -> Option<PcKind>
+    ensures { result ≡ pc_in word }
+{
+    let flags = field(word, bits::FLAGS + bits::PC_JUMP_ABS, 3);
+    one_of_three(flags, PcKind::Next, PcKind::Abs, PcKind::Rel, PcKind::Jnz)
+}
+
+fn ap_in(word: u64) -> Option<ApKind>
+    ensures { result ≡ ap_in word }
+{
+    let flags = field(word, bits::FLAGS + bits::AP_ADD, 2);
+    one_of_two(flags, ApKind::Keep, ApKind::Add, ApKind::Inc)
+}
+
+fn opcode_in(word: u64) -> Option<Opcode>
+    ensures { result ≡ opcode_in word }
+{
+    let flags = field(word, bits::FLAGS + bits::OPCODE_CALL, 3);
+    one_of_three(
+        flags,
+        Opcode::Nop,
+        Opcode::Call,
+        Opcode::Ret,
+        Opcode::AssertEq,
+    )
+}
+
 impl Kinds {
     /// The flags of each kind in a word, or the first of the rules on two flags of one kind that it meets.
     #[tactic(auto, unfolding(crate::specs::Decoding::kinds_of))]
     fn of(word: u64) -> Result<Kinds, Rule>
         ensures { result ≡ kinds_in word }
     {
-        let op1 = one_of_three(
-            field(word, bits::FLAGS + bits::OP1_IMM, 3),
-            Op1::Op0,
-            Op1::Imm,
-            Op1::Fp,
-            Op1::Ap,
-        );
-        let res = one_of_two(
-            field(word, bits::FLAGS + bits::RES_ADD, 2),
-            ResKind::Op1,
-            ResKind::Add,
-            ResKind::Mul,
-        );
-        let pc = one_of_three(
-            field(word, bits::FLAGS + bits::PC_JUMP_ABS, 3),
-            PcKind::Next,
-            PcKind::Abs,
-            PcKind::Rel,
-            PcKind::Jnz,
-        );
-        let ap = one_of_two(
-            field(word, bits::FLAGS + bits::AP_ADD, 2),
-            ApKind::Keep,
-            ApKind::Add,
-            ApKind::Inc,
-        );
-        let opcode = one_of_three(
-            field(word, bits::FLAGS + bits::OPCODE_CALL, 3),
-            Opcode::Nop,
-            Opcode::Call,
-            Opcode::Ret,
-            Opcode::AssertEq,
-        );
         Ok(Kinds {
-            op1: op1.ok_or(Rule::TwoOp1Flags)?,
-            res: res.ok_or(Rule::TwoResFlags)?,
-            pc: pc.ok_or(Rule::TwoPcFlags)?,
-            ap: ap.ok_or(Rule::TwoApFlags)?,
-            opcode: opcode.ok_or(Rule::TwoOpcodes)?,
+            op1: op1_in(word).ok_or(Rule::TwoOp1Flags)?,
+            res: res_in(word).ok_or(Rule::TwoResFlags)?,
+            pc: pc_in(word).ok_or(Rule::TwoPcFlags)?,
+            ap: ap_in(word).ok_or(Rule::TwoApFlags)?,
+            opcode: opcode_in(word).ok_or(Rule::TwoOpcodes)?,
         })
     }
 

@@ -4,7 +4,7 @@
 ghost use Rattle.std.specs.Prelude.{◌≡◌, ◌+◌, ◌*◌, ◌^◌, ◌<◌, ◌≤◌};
 ghost use Rattle.casm_word.specs.Parts.{IsDefined};
 ghost use Rattle.casm_word.specs.Word.{biased, op1_flag, res_flag, pc_flag, ap_flag, opcode_flag, word_of, Word};
-ghost use Rattle.casm_word.specs.Encoding.{is_fp, with_operand, sources_of, from_reg, jump_kind, inc_kind, flags_with, flags_of, immediate, operand_immediate, res_immediate, encoded};
+ghost use Rattle.casm_word.specs.Encoding.{with_operand, sources_of, from_reg, jump_kind, inc_kind, flags_with, flags_of, immediate, operand_immediate, res_immediate, encoded};
 
 use crate::bits;
 use crate::flags::{ApKind, Flags, Op1, Opcode, PcKind, ResKind};
@@ -15,7 +15,7 @@ use crate::instr::{CellRef, Instr, Operand, Reg, Res};
 pub struct Encoded {
     /// The instruction word.
     pub word: u64,
-    /// The number in the cell behind it, where the instruction has an immediate.
+    /// The number in the next cell, if the instruction has an immediate.
     pub imm: Option<u64>,
 }
 
@@ -28,7 +28,7 @@ struct Sources {
     res: ResKind,
 }
 
-/// The cell that stands where an instruction has no dst or no op0.
+/// The cell that the machine reads as dst or op0 where the instruction has none.
 const UNUSED: CellRef = CellRef {
     reg: Reg::Fp,
     off: -1,
@@ -85,25 +85,13 @@ impl Sources {
             off_dst: dst.off,
             off_op0: self.op0.off,
             off_op1: self.off_op1,
-            dst_fp: dst.is_in_frame(),
-            op0_fp: self.op0.is_in_frame(),
+            dst_fp: dst.is_fp(),
+            op0_fp: self.op0.is_fp(),
             op1: self.op1,
             res: self.res,
             pc,
             ap,
             opcode,
-        }
-    }
-}
-
-impl CellRef {
-    /// Whether the cell is counted from fp.
-    fn is_in_frame(self) -> bool
-        ensures { result ≡ is_fp self.reg }
-    {
-        match self.reg {
-            Reg::Ap => false,
-            Reg::Fp => true,
         }
     }
 }
@@ -127,34 +115,21 @@ pub fn flags_of(i: &Instr) -> Flags
             inc_kind(ap_inc),
             Opcode::Nop,
         ),
-        Instr::Call { rel, to } => {
-            let [saved_fp, return_pc] = [0, 1].map(|off| CellRef { reg: Reg::Ap, off });
-            Sources::with_operand(return_pc, to, ResKind::Op1).flags(
-                saved_fp,
-                jump_kind(rel),
-                ApKind::Keep,
-                Opcode::Call,
-            )
-        }
+        Instr::Call { rel, to } => Sources::with_operand(CellRef::ap(1), to, ResKind::Op1).flags(
+            CellRef::ap(0),
+            jump_kind(rel),
+            ApKind::Keep,
+            Opcode::Call,
+        ),
         Instr::AddAp { by } => {
             Sources::of(by).flags(UNUSED, PcKind::Next, ApKind::Add, Opcode::Nop)
         }
-        Instr::Ret => {
-            let saved_fp = CellRef {
-                reg: Reg::Fp,
-                off: -2,
-            };
-            let return_pc = Operand::Cell(CellRef {
-                reg: Reg::Fp,
-                off: -1,
-            });
-            Sources::with_operand(UNUSED, return_pc, ResKind::Op1).flags(
-                saved_fp,
-                PcKind::Abs,
-                ApKind::Keep,
-                Opcode::Ret,
-            )
-        }
+        Instr::Ret => Sources::of(Res::Cell(CellRef::fp(-1))).flags(
+            CellRef::fp(-2),
+            PcKind::Abs,
+            ApKind::Keep,
+            Opcode::Ret,
+        ),
     }
 }
 
@@ -179,11 +154,11 @@ pub fn word_of(f: &Flags) -> u64
     ensures value { result ≡ word_of f.now }
 {
     let offsets = biased(f.off_dst) + biased(f.off_op0) * (1 << 16) + biased(f.off_op1) * (1 << 32);
-    let registers = bits::set_if(f.dst_fp, bits::DST_REG) + bits::set_if(f.op0_fp, bits::OP0_REG);
+    let registers = bits::flag_if(f.dst_fp, bits::DST_REG) + bits::flag_if(f.op0_fp, bits::OP0_REG);
     offsets + registers + f.op1.flag() + f.res.flag() + f.pc.flag() + f.ap.flag() + f.opcode.flag()
 }
 
-/// An offset as it stands in a word.
+/// An offset with 2^15 added.
 fn biased(off: i16) -> u64
     ensures value { result ≡ biased off }
     ensures bound { result < 2 ^ 16 }
@@ -198,9 +173,9 @@ impl Op1 {
     {
         match self {
             Op1::Op0 => 0,
-            Op1::Imm => bits::set(bits::OP1_IMM),
-            Op1::Fp => bits::set(bits::OP1_FP),
-            Op1::Ap => bits::set(bits::OP1_AP),
+            Op1::Imm => bits::flag(bits::OP1_IMM),
+            Op1::Fp => bits::flag(bits::OP1_FP),
+            Op1::Ap => bits::flag(bits::OP1_AP),
         }
     }
 }
@@ -212,8 +187,8 @@ impl ResKind {
     {
         match self {
             ResKind::Op1 => 0,
-            ResKind::Add => bits::set(bits::RES_ADD),
-            ResKind::Mul => bits::set(bits::RES_MUL),
+            ResKind::Add => bits::flag(bits::RES_ADD),
+            ResKind::Mul => bits::flag(bits::RES_MUL),
         }
     }
 }
@@ -225,9 +200,9 @@ impl PcKind {
     {
         match self {
             PcKind::Next => 0,
-            PcKind::Abs => bits::set(bits::PC_JUMP_ABS),
-            PcKind::Rel => bits::set(bits::PC_JUMP_REL),
-            PcKind::Jnz => bits::set(bits::PC_JNZ),
+            PcKind::Abs => bits::flag(bits::PC_JUMP_ABS),
+            PcKind::Rel => bits::flag(bits::PC_JUMP_REL),
+            PcKind::Jnz => bits::flag(bits::PC_JNZ),
         }
     }
 }
@@ -239,8 +214,8 @@ impl ApKind {
     {
         match self {
             ApKind::Keep => 0,
-            ApKind::Add => bits::set(bits::AP_ADD),
-            ApKind::Inc => bits::set(bits::AP_ADD1),
+            ApKind::Add => bits::flag(bits::AP_ADD),
+            ApKind::Inc => bits::flag(bits::AP_ADD1),
         }
     }
 }
@@ -252,9 +227,9 @@ impl Opcode {
     {
         match self {
             Opcode::Nop => 0,
-            Opcode::Call => bits::set(bits::OPCODE_CALL),
-            Opcode::Ret => bits::set(bits::OPCODE_RET),
-            Opcode::AssertEq => bits::set(bits::OPCODE_ASSERT_EQ),
+            Opcode::Call => bits::flag(bits::OPCODE_CALL),
+            Opcode::Ret => bits::flag(bits::OPCODE_RET),
+            Opcode::AssertEq => bits::flag(bits::OPCODE_ASSERT_EQ),
         }
     }
 }
@@ -271,7 +246,7 @@ pub fn encode(i: &Instr) -> Encoded
 }
 
 impl Instr {
-    /// The number that stands in the cell behind the instruction's word, where there is one.
+    /// The number in the cell after the instruction's word, if there is one.
     pub fn immediate(&self) -> Option<u64>
         ensures { result ≡ immediate self.now }
     {

@@ -1,6 +1,9 @@
 //! The instructions of CASM as their authors write them: cells by register and offset, and operands.
 //! The reader of CASM text and the lowerings make them; [`crate::flags_of`] turns them into the parts of a word.
 
+ghost use Rattle.std.specs.Prelude.{◌≡◌};
+ghost use Rattle.casm_word.specs.Encoding.{is_fp, ap_cell, fp_cell};
+
 /// A register that cells are counted from.
 #[derive(Clone, Copy, Debug, PartialEq, Eq)]
 pub enum Reg {
@@ -19,7 +22,33 @@ pub struct CellRef {
     pub off: i16,
 }
 
-/// A second operand: a cell's word, or a number that stands beside the instruction.
+impl CellRef {
+    /// The cell `[ap + off]`.
+    pub fn ap(off: i16) -> CellRef
+        ensures { result ≡ ap_cell off }
+    {
+        CellRef { reg: Reg::Ap, off }
+    }
+
+    /// The cell `[fp + off]`.
+    pub fn fp(off: i16) -> CellRef
+        ensures { result ≡ fp_cell off }
+    {
+        CellRef { reg: Reg::Fp, off }
+    }
+
+    /// Whether the cell is counted from fp.
+    pub fn is_fp(self) -> bool
+        ensures { result ≡ is_fp self.reg }
+    {
+        match self.reg {
+            Reg::Ap => false,
+            Reg::Fp => true,
+        }
+    }
+}
+
+/// A second operand: a cell's word, or an immediate.
 #[derive(Clone, Copy, Debug, PartialEq, Eq)]
 pub enum Operand {
     /// The word of the cell.

@@ -14,12 +14,12 @@ ghost use Rattle.casm_word.specs.Parts.{IsDefined};
 ghost use Rattle.casm_word.specs.Rules.{Meets};
 ghost use Rattle.casm_word.specs.Word.{AreNear, Word, word_of};
 
-/// A word stands for one list of offsets and flags.
+/// No two lists of offsets and flags have the same word.
 pub fn one_flags()
     ensures { (f g : Flags) (word : ℕ) → Word f word → Word g word → f ≡ g }
 {}
 
-/// The words that stand for flags are those of 63 bits that meet no rule.
+/// The words of flags are the numbers of 63 bits that meet no rule.
 pub fn defined_words()
     ensures { (word : ℕ) → ((f : Flags) × Word f word) ↔ ((word < 2 ^ 63) × ((rule : Rule) → ¬ Meets rule word)) }
 {}
@@ -39,7 +39,7 @@ pub fn instructions_have_words()
     ensures { (i : Instr) → IsInstrNear i → Word (flags_of i) (word_of (flags_of i)) }
 {}
 
-/// A word that stands for flags is a number of the field.
+/// The word of flags is a number of the field.
 pub fn words_in_field()
     ensures { (f : Flags) (word : ℕ) → Word f word → word < modulus }
 {}

@@ -1,19 +1,9 @@
 //! Words from outside: those of short programs, and one for each rule.
 
-use crate::{
-    CellRef, Code, Instr, Operand, Reg, Res, Rule, WordFault, decode, encode, flags_of, words,
-};
+use crate::{CellRef, Code, Instr, Operand, Res, Rule, WordFault, decode, encode, flags_of, words};
 use std::test::Fail;
 
 const RET: u64 = 0x208b7fff7fff7ffe;
-
-fn ap(off: i16) -> CellRef {
-    CellRef { reg: Reg::Ap, off }
-}
-
-fn fp(off: i16) -> CellRef {
-    CellRef { reg: Reg::Fp, off }
-}
 
 #[test]
 fn words_of_a_code(rt: HostRuntime) -> Result<(), Fail> {
@@ -31,13 +21,13 @@ fn words_of_a_code(rt: HostRuntime) -> Result<(), Fail> {
         },
         Instr::AddAp { by: Res::Imm(5) },
         Instr::Jnz {
-            cond: ap(-1),
+            cond: CellRef::ap(-1),
             to: Operand::Imm(4),
             ap_inc: false,
         },
         Instr::AssertEq {
-            dst: ap(0),
-            res: Res::Add(fp(-3), Operand::Imm(7)),
+            dst: CellRef::ap(0),
+            res: Res::Add(CellRef::fp(-3), Operand::Imm(7)),
             ap_inc: true,
         },
     ] {

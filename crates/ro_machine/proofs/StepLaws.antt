@@ -11,7 +11,7 @@ use Rattle.casm_word.specs.declared.rules.WordFault.{WordFault}
 use Rattle.casm_word.specs.Word.{Word}
 use Rattle.casm_word.specs.Decoding as decoding
 use Rattle.casm_word.proofs.WordLaws.{decodes, undecoded}
-use Rattle.ro_machine.specs.Step.{Step, StepBy, Stops, Operands, Asserts, Fetches, AssertDiffers, CallDiffers, MissesOperand, op0_address, op1_address, dst_address, res_of, behind, next_state}
+use Rattle.ro_machine.specs.Step.{Step, StepBy, Stops, Operands, Asserts, Fetches, AssertDiffers, CallDiffers, MissesOperand, op0_address, op1_address, dst_address, res_of, next_instruction, next_state}
 use Rattle.ro_machine.specs.Stepping.{◌>>=◌, word_or, flags_or, listed, decoded, equal_or, asserted, step_of}
 
 module _ {A B : Type 0} where
@@ -86,16 +86,16 @@ asserted_by op f s op0 op1 dst = asserted op f s op0 dst (res_of f.res op0 op1)
 asserted_ok : (op : Opcode) (f : Flags) (s : State) (op0 op1 dst : ℕ) → asserted_by op f s op0 op1 dst ≡ Ok tt → Asserts op f s op0 op1 dst
 asserted_ok opcode.Nop f s op0 op1 dst is = tt
 asserted_ok opcode.Call f s op0 op1 dst is =
-    let first = bind_ok (equal_or dst s.fp (CallFails dst s.fp)) (λ _. equal_or op0 (behind f s) (CallFails op0 (behind f s))) tt is in
-    (equal_or_ok dst s.fp (CallFails dst s.fp) first.1, equal_or_ok op0 (behind f s) (CallFails op0 (behind f s)) first.2)
+    let first = bind_ok (equal_or dst s.fp (CallFails dst s.fp)) (λ _. equal_or op0 (next_instruction f s) (CallFails op0 (next_instruction f s))) tt is in
+    (equal_or_ok dst s.fp (CallFails dst s.fp) first.1, equal_or_ok op0 (next_instruction f s) (CallFails op0 (next_instruction f s)) first.2)
 asserted_ok opcode.Ret f s op0 op1 dst is = tt
 asserted_ok opcode.AssertEq f s op0 op1 dst is = equal_or_ok dst (res_of f.res op0 op1) (AssertFails dst (res_of f.res op0 op1)) is
 
 asserted_holds : (op : Opcode) (f : Flags) (s : State) (op0 op1 dst : ℕ) → Asserts op f s op0 op1 dst → asserted_by op f s op0 op1 dst ≡ Ok tt
 asserted_holds opcode.Nop f s op0 op1 dst holds = refl
 asserted_holds opcode.Call f s op0 op1 dst holds =
-    after_ok (equal_or dst s.fp (CallFails dst s.fp)) (λ _. equal_or op0 (behind f s) (CallFails op0 (behind f s))) tt (equal_or_same dst s.fp (CallFails dst s.fp) holds.0)
-    ∙ equal_or_same op0 (behind f s) (CallFails op0 (behind f s)) holds.1
+    after_ok (equal_or dst s.fp (CallFails dst s.fp)) (λ _. equal_or op0 (next_instruction f s) (CallFails op0 (next_instruction f s))) tt (equal_or_same dst s.fp (CallFails dst s.fp) holds.0)
+    ∙ equal_or_same op0 (next_instruction f s) (CallFails op0 (next_instruction f s)) holds.1
 asserted_holds opcode.Ret f s op0 op1 dst holds = refl
 asserted_holds opcode.AssertEq f s op0 op1 dst holds = equal_or_same dst (res_of f.res op0 op1) (AssertFails dst (res_of f.res op0 op1)) holds
 
@@ -109,10 +109,10 @@ FailsBy op f s op0 op1 dst (CallFails left right) = CallDiffers op f s op0 dst l
 asserted_err : (op : Opcode) (f : Flags) (s : State) (op0 op1 dst : ℕ) (fault : StepFault) → asserted_by op f s op0 op1 dst ≡ Err fault → FailsBy op f s op0 op1 dst fault
 asserted_err opcode.Nop f s op0 op1 dst fault is = cc
 asserted_err opcode.Call f s op0 op1 dst fault is =
-    elim (bind_err (equal_or dst s.fp (CallFails dst s.fp)) (λ _. equal_or op0 (behind f s) (CallFails op0 (behind f s))) fault is) [
+    elim (bind_err (equal_or dst s.fp (CallFails dst s.fp)) (λ _. equal_or op0 (next_instruction f s) (CallFails op0 (next_instruction f s))) fault is) [
       | inl first ↦ let differs = equal_or_err dst s.fp (CallFails dst s.fp) fault first in
           subst (FailsBy opcode.Call f s op0 op1 dst) (sym differs.1) (refl, inl (refl, refl, differs.0))
-      | inr second ↦ let differs = equal_or_err op0 (behind f s) (CallFails op0 (behind f s)) fault second.2 in
+      | inr second ↦ let differs = equal_or_err op0 (next_instruction f s) (CallFails op0 (next_instruction f s)) fault second.2 in
           subst (FailsBy opcode.Call f s op0 op1 dst) (sym differs.1) (refl, inr (equal_or_ok dst s.fp (CallFails dst s.fp) second.1, refl, refl, differs.0))
     ]
 asserted_err opcode.Ret f s op0 op1 dst fault is = cc
@@ -128,11 +128,11 @@ asserted_fails op f s op0 op1 dst (AssertFails left right) fails =
     rw fails.0 (equal_or_differs dst res (AssertFails dst res) (λ same. fails.3 (fails.1 ∙ same ∙ sym fails.2)) ∙ rw (fails.1, fails.2) refl)
 asserted_fails op f s op0 op1 dst (CallFails left right) fails =
     let saves = equal_or dst s.fp (CallFails dst s.fp) in
-    let returns = equal_or op0 (behind f s) (CallFails op0 (behind f s)) in
+    let returns = equal_or op0 (next_instruction f s) (CallFails op0 (next_instruction f s)) in
     rw fails.0 (elim fails.1 [
       | inl first ↦ after_err saves (λ _. returns) (CallFails left right) (equal_or_differs dst s.fp (CallFails dst s.fp) (λ same. first.2 (first.0 ∙ same ∙ sym first.1)) ∙ rw (first.0, first.1) refl)
       | inr second ↦ after_ok saves (λ _. returns) tt (equal_or_same dst s.fp (CallFails dst s.fp) second.0)
-          ∙ equal_or_differs op0 (behind f s) (CallFails op0 (behind f s)) (λ same. second.3 (second.1 ∙ same ∙ sym second.2)) ∙ rw (second.1, second.2) refl
+          ∙ equal_or_differs op0 (next_instruction f s) (CallFails op0 (next_instruction f s)) (λ same. second.3 (second.1 ∙ same ∙ sym second.2)) ∙ rw (second.1, second.2) refl
     ])
 
 module _ (cells : ℕ → Option ℕ) (s : State) where

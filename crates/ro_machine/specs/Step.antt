@@ -51,9 +51,9 @@ res_of res.Op1 op0 op1 = op1
 res_of res.Add op0 op1 = sum op0 op1
 res_of res.Mul op0 op1 = product op0 op1
 
--- the place behind the instruction
-abbrev pub behind : Flags → State → ℕ
-behind f s = sum s.pc (size_of f.op1)
+-- the address of the next instruction in the code
+abbrev pub next_instruction : Flags → State → ℕ
+next_instruction f s = sum s.pc (size_of f.op1)
 
 abbrev pub pc_after : PcKind → ℕ → ℕ → ℕ → ℕ → ℕ → ℕ
 pc_after pc.Next next s_pc op1 dst res = next
@@ -82,7 +82,7 @@ pub record Operands (cells : ℕ → Option ℕ) (f : Flags) (s : State) (op0 op
 -- what the opcode asserts
 abbrev pub Asserts : Opcode → Flags → State → ℕ → ℕ → ℕ → Type 0
 Asserts opcode.Nop f s op0 op1 dst = Unit {0}
-Asserts opcode.Call f s op0 op1 dst = (dst ≡ s.fp) × (op0 ≡ behind f s)
+Asserts opcode.Call f s op0 op1 dst = (dst ≡ s.fp) × (op0 ≡ next_instruction f s)
 Asserts opcode.Ret f s op0 op1 dst = Unit {0}
 Asserts opcode.AssertEq f s op0 op1 dst = dst ≡ res_of f.res op0 op1
 
@@ -90,13 +90,13 @@ abbrev pub next_state : Flags → State → ℕ → ℕ → ℕ → State
 next_state f s op0 op1 dst =
     let res = res_of f.res op0 op1 in
     record {
-      pc = pc_after f.pc (behind f s) s.pc op1 dst res;
+      pc = pc_after f.pc (next_instruction f s) s.pc op1 dst res;
       ap = ap_after f.opcode f.ap s.ap res;
       fp = fp_after f.opcode s dst;
     }
 
 -- The machine steps from s to t: the word at pc is listed and stands for flags, the four words are read, what the
--- opcode asserts holds, and t is the state behind it. A state of which one part fails has no step.
+-- opcode asserts holds, and t is the state after it. A state of which one part fails has no step.
 pub record Step (cells : ℕ → Option ℕ) (s t : State) : Type 0 where
   pub word : ℕ
   pub word_is : cells s.pc ≡ Some word
@@ -126,7 +126,7 @@ pub record StepBy (cells : ℕ → Option ℕ) (f : Flags) (s t : State) : Type 
 abbrev pub IsUnlisted : (ℕ → Option ℕ) → ℕ → Type 0
 IsUnlisted cells at = cells at ≡ None
 
--- the first cell in reading order that isn't listed, behind the one at pc
+-- the first cell in reading order that isn't listed, after the one at pc
 abbrev pub MissesOperand : (ℕ → Option ℕ) → Flags → State → ℕ → Type 0
 MissesOperand cells f s at =
     ((at ≡ op0_address f s) × IsUnlisted cells at)
@@ -143,7 +143,7 @@ abbrev pub CallDiffers : Opcode → Flags → State → ℕ → ℕ → ℕ → 
 CallDiffers op f s op0 dst left right =
     (op ≡ opcode.Call)
     × (((left ≡ dst) × (right ≡ s.fp) × (left ≢ right))
-    ⊎ ((dst ≡ s.fp) × (left ≡ op0) × (right ≡ behind f s) × (left ≢ right)))
+    ⊎ ((dst ≡ s.fp) × (left ≡ op0) × (right ≡ next_instruction f s) × (left ≢ right)))
 
 -- this is the first part that fails of a step from s
 abbrev pub Stops : (ℕ → Option ℕ) → State → StepFault → Type 0

@@ -8,7 +8,7 @@ use Rattle.ro_machine.specs.declared.machine.StepFault.{StepFault}
 use Rattle.ro_machine.specs.declared.machine.StepFault.TheVariants.{CellMissing, BadWord, AssertFails, CallFails}
 use Rattle.casm_word.specs.declared.rules.WordFault.{WordFault}
 use Rattle.casm_word.specs.Decoding as decoding
-use Rattle.ro_machine.specs.Step.{dst_address, op0_address, op1_address, res_of, behind, pc_after, ap_after, fp_after, next_state}
+use Rattle.ro_machine.specs.Step.{dst_address, op0_address, op1_address, res_of, next_instruction, pc_after, ap_after, fp_after, next_state}
 
 infixl 10 ◌>>=◌
 abbrev pub ◌>>=◌ : {A B : Type 0} → Result A StepFault → (A → Result B StepFault) → Result B StepFault
@@ -37,7 +37,7 @@ equal_or left right fault = if left == right then Ok tt else Err fault
 -- what the opcode asserts of op0, dst and res
 abbrev pub asserted : Opcode → Flags → State → ℕ → ℕ → ℕ → Result (Unit {0}) StepFault
 asserted opcode.Nop f s op0 dst res = Ok tt
-asserted opcode.Call f s op0 dst res = equal_or dst s.fp (CallFails dst s.fp) >>= λ _. equal_or op0 (behind f s) (CallFails op0 (behind f s))
+asserted opcode.Call f s op0 dst res = equal_or dst s.fp (CallFails dst s.fp) >>= λ _. equal_or op0 (next_instruction f s) (CallFails op0 (next_instruction f s))
 asserted opcode.Ret f s op0 dst res = Ok tt
 asserted opcode.AssertEq f s op0 dst res = equal_or dst res (AssertFails dst res)
 
@@ -45,7 +45,7 @@ asserted opcode.AssertEq f s op0 dst res = equal_or dst res (AssertFails dst res
 abbrev pub state_after : Flags → State → ℕ → ℕ → ℕ → State
 state_after f s op1 dst res =
     record {
-      pc = pc_after f.pc (behind f s) s.pc op1 dst res;
+      pc = pc_after f.pc (next_instruction f s) s.pc op1 dst res;
       ap = ap_after f.opcode f.ap s.ap res;
       fp = fp_after f.opcode s dst;
     }

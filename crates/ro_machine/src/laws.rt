@@ -32,7 +32,7 @@ pub fn steps_or_stops()
     ensures { (cells : ℕ → Option ℕ) (s : State) → ((t : State) × Step cells s t) ⊎ ((fault : StepFault) × Stops cells s fault) }
 {}
 
-/// A state whose word stands for no flags has no step, and stops for its word.
+/// A state whose word is undefined, which no flags have, has no step and stops for its word.
 pub fn undefined_word_stops()
     ensures no_step { (cells : ℕ → Option ℕ) (s t : State) (word : ℕ) → cells s.pc ≡ Some word → ((f : Flags) → ¬ Word f word) → ¬ Step cells s t }
     ensures stops { (cells : ℕ → Option ℕ) (s : State) (word : ℕ) → cells s.pc ≡ Some word → ((f : Flags) → ¬ Word f word) → Stops cells s (BadWord s.pc) }

@@ -4,7 +4,7 @@
 
 ghost use Rattle.std.specs.Prelude.{◌≡◌, ◌↔◌, Ok, IfErr, if◌then◌else◌};
 ghost use Rattle.std.specs.FinMap.{get};
-ghost use Rattle.ro_machine.specs.Step.{Step, Stops, moved, op0_address, op1_address, dst_address, behind, res_of, pc_after, ap_after, fp_after};
+ghost use Rattle.ro_machine.specs.Step.{Step, Stops, moved, op0_address, op1_address, dst_address, next_instruction, res_of, pc_after, ap_after, fp_after};
 ghost use Rattle.ro_machine.specs.Stepping.{step_of, listed, decoded, equal_or, asserted, state_after};
 
 use crate::memory::Memory;
@@ -29,13 +29,13 @@ pub enum StepFault {
     /// The first cell in reading order (pc, op0, op1, dst) that isn't listed.
     #[error("the cell is not listed")]
     CellMissing(Felt),
-    /// The word at this pc stands for no instruction.
-    #[error("the word stands for no instruction")]
+    /// The word at this pc is undefined: no flags have it.
+    #[error("the word is undefined")]
     BadWord(Felt),
-    /// dst and res, which an assertion wants equal.
+    /// dst and res, which differ, though the instruction asserts that they are equal.
     #[error("an assertion fails")]
     AssertFails(Felt, Felt),
-    /// dst and fp, or else op0 and the return pc, which a call wants equal.
+    /// dst and fp, or else op0 and the return pc, which differ, though a call asserts that they are equal.
     #[error("a call writes other words")]
     CallFails(Felt, Felt),
 }
@@ -44,8 +44,8 @@ pub enum StepFault {
 ///
 /// # Errors
 ///
-/// The first part that fails, where the parts are in this order: the word at pc is listed and decodes; op0, op1 and
-/// dst are listed; the opcode's assertions hold, of a call that on dst before that on op0.
+/// The first part that fails, in this order: the word at pc is listed and decodes; op0, op1 and dst are listed; the
+/// opcode's assertions hold, of a call that on dst before that on op0.
 pub fn step(memory: &Memory, from: State) -> Result<State, StepFault>
     ensures step { (to : State) → (result ≡ Ok to) ↔ Step (get memory.now) from to }
     ensures stops { IfErr result (Stops (get memory.now) from) }
@@ -145,7 +145,7 @@ impl Instruction {
 
     /// The address of the next instruction in the code.
     fn next_instruction(&self) -> Felt
-        ensures { result ≡ behind self.now.flags self.now.from }
+        ensures { result ≡ next_instruction self.now.flags self.now.from }
     {
         let flags = &self.flags;
         let size = match flags.op1 {
@@ -196,7 +196,7 @@ impl Instruction {
     }
 
     fn next_pc(&self, op1: Felt, dst: Felt, res: Felt) -> Felt
-        ensures { result ≡ pc_after self.now.flags.pc (behind self.now.flags self.now.from) self.now.from.pc op1 dst res }
+        ensures { result ≡ pc_after self.now.flags.pc (next_instruction self.now.flags self.now.from) self.now.from.pc op1 dst res }
     {
         let flags = &self.flags;
         match flags.pc {
