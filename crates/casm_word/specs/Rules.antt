@@ -3,7 +3,47 @@ use Rattle.std.specs.Prelude.{◌≡◌, ◌≢◌, ◌⊎◌, ℕ, ◌+◌, ◌
 use Rattle.std.specs.Int.{bit_at}
 use Rattle.casm_word.specs.declared.rules.Rule.{Rule}
 use Rattle.casm_word.specs.declared.rules.Rule.TheVariants.{TwoOp1Flags, TwoResFlags, TwoPcFlags, TwoApFlags, TwoOpcodes, JnzBesideOthers, CallBesideApFlag, ImmediateNotNext}
-use Rattle.casm_word.specs.Word.{op1_imm, op1_fp, op1_ap, res_add, res_mul, pc_jump_abs, pc_jump_rel, pc_jnz, ap_add, ap_add1, opcode_call, opcode_ret, opcode_assert_eq, biased}
+use Rattle.casm_word.specs.Word.{biased}
+
+-- the flags that a rule names, by their numbers
+abbrev pub op1_imm : ℕ
+op1_imm = 2
+
+abbrev pub op1_fp : ℕ
+op1_fp = 3
+
+abbrev pub op1_ap : ℕ
+op1_ap = 4
+
+abbrev pub res_add : ℕ
+res_add = 5
+
+abbrev pub res_mul : ℕ
+res_mul = 6
+
+abbrev pub pc_jump_abs : ℕ
+pc_jump_abs = 7
+
+abbrev pub pc_jump_rel : ℕ
+pc_jump_rel = 8
+
+abbrev pub pc_jnz : ℕ
+pc_jnz = 9
+
+abbrev pub ap_add : ℕ
+ap_add = 10
+
+abbrev pub ap_add1 : ℕ
+ap_add1 = 11
+
+abbrev pub opcode_call : ℕ
+opcode_call = 12
+
+abbrev pub opcode_ret : ℕ
+opcode_ret = 13
+
+abbrev pub opcode_assert_eq : ℕ
+opcode_assert_eq = 14
 
 -- the bit of a word at a place, counted from the lowest, is 1
 abbrev pub IsBitSet : ℕ → ℕ → Type 0

@@ -1,5 +1,6 @@
 -- The instruction word. It is the sum of three offsets, each biased by 2 ^ 15, times 1, 2 ^ 16 and 2 ^ 32, and of
--- 2 ^ (48 + k) for each set flag k.
+-- 2 ^ (48 + k) for each set flag k: dst_reg, op0_reg, op1_imm, op1_fp, op1_ap, res_add, res_mul, pc_jump_abs,
+-- pc_jump_rel, pc_jnz, ap_add, ap_add1, opcode_call, opcode_ret, opcode_assert_eq, counted from 0.
 use Rattle.std.specs.Prelude.{◌≡◌, ℕ, suc, ◌+◌, ◌-◌, ◌*◌, ◌^◌, Bool, true, false, ℤ, pos, negsuc}
 use Rattle.casm_word.specs.declared.flags.Op1.{Op1}
 use Rattle.casm_word.specs.declared.flags.Op1.TheVariants as op1
@@ -15,52 +16,6 @@ use Rattle.casm_word.specs.declared.flags.Flags.{Flags}
 use Rattle.casm_word.specs.Offset.{IsNear}
 use Rattle.casm_word.specs.Parts.{IsDefined}
 
--- the flags by number
-abbrev pub dst_reg : ℕ
-dst_reg = 0
-
-abbrev pub op0_reg : ℕ
-op0_reg = 1
-
-abbrev pub op1_imm : ℕ
-op1_imm = 2
-
-abbrev pub op1_fp : ℕ
-op1_fp = 3
-
-abbrev pub op1_ap : ℕ
-op1_ap = 4
-
-abbrev pub res_add : ℕ
-res_add = 5
-
-abbrev pub res_mul : ℕ
-res_mul = 6
-
-abbrev pub pc_jump_abs : ℕ
-pc_jump_abs = 7
-
-abbrev pub pc_jump_rel : ℕ
-pc_jump_rel = 8
-
-abbrev pub pc_jnz : ℕ
-pc_jnz = 9
-
-abbrev pub ap_add : ℕ
-ap_add = 10
-
-abbrev pub ap_add1 : ℕ
-ap_add1 = 11
-
-abbrev pub opcode_call : ℕ
-opcode_call = 12
-
-abbrev pub opcode_ret : ℕ
-opcode_ret = 13
-
-abbrev pub opcode_assert_eq : ℕ
-opcode_assert_eq = 14
-
 -- what flag k adds to a word where it is set
 abbrev pub flag : ℕ → ℕ
 flag k = 2 ^ (48 + k)
@@ -71,31 +26,31 @@ flag_if false k = 0
 
 abbrev pub op1_flag : Op1 → ℕ
 op1_flag op1.Op0 = 0
-op1_flag op1.Imm = flag op1_imm
-op1_flag op1.Fp = flag op1_fp
-op1_flag op1.Ap = flag op1_ap
+op1_flag op1.Imm = flag 2
+op1_flag op1.Fp = flag 3
+op1_flag op1.Ap = flag 4
 
 abbrev pub res_flag : ResKind → ℕ
 res_flag res.Op1 = 0
-res_flag res.Add = flag res_add
-res_flag res.Mul = flag res_mul
+res_flag res.Add = flag 5
+res_flag res.Mul = flag 6
 
 abbrev pub pc_flag : PcKind → ℕ
 pc_flag pc.Next = 0
-pc_flag pc.Abs = flag pc_jump_abs
-pc_flag pc.Rel = flag pc_jump_rel
-pc_flag pc.Jnz = flag pc_jnz
+pc_flag pc.Abs = flag 7
+pc_flag pc.Rel = flag 8
+pc_flag pc.Jnz = flag 9
 
 abbrev pub ap_flag : ApKind → ℕ
 ap_flag ap.Keep = 0
-ap_flag ap.Add = flag ap_add
-ap_flag ap.Inc = flag ap_add1
+ap_flag ap.Add = flag 10
+ap_flag ap.Inc = flag 11
 
 abbrev pub opcode_flag : Opcode → ℕ
 opcode_flag opcode.Nop = 0
-opcode_flag opcode.Call = flag opcode_call
-opcode_flag opcode.Ret = flag opcode_ret
-opcode_flag opcode.AssertEq = flag opcode_assert_eq
+opcode_flag opcode.Call = flag 12
+opcode_flag opcode.Ret = flag 13
+opcode_flag opcode.AssertEq = flag 14
 
 -- an offset with 2 ^ 15 added, as a word has it
 abbrev pub biased : ℤ → ℕ
@@ -106,7 +61,7 @@ biased (negsuc n) = 2 ^ 15 - suc n
 abbrev pub word_of : Flags → ℕ
 word_of f =
     biased f.off_dst + biased f.off_op0 * 2 ^ 16 + biased f.off_op1 * 2 ^ 32
-    + flag_if f.dst_fp dst_reg + flag_if f.op0_fp op0_reg
+    + flag_if f.dst_fp 0 + flag_if f.op0_fp 1
     + op1_flag f.op1 + res_flag f.res + pc_flag f.pc + ap_flag f.ap + opcode_flag f.opcode
 
 -- each offset has 16 bits; without this two flags would sum to one word

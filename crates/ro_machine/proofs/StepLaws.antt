@@ -11,7 +11,9 @@ use Rattle.casm_word.specs.declared.rules.WordFault.{WordFault}
 use Rattle.casm_word.specs.Word.{Word}
 use Rattle.casm_word.specs.Decoding as decoding
 use Rattle.casm_word.proofs.WordLaws.{decodes, undecoded}
-use Rattle.ro_machine.specs.Step.{Step, StepBy, Stops, Operands, Asserts, Fetches, AssertDiffers, CallDiffers, MissesOperand, op0_address, op1_address, dst_address, res_of, next_instruction, next_state}
+use Rattle.ro_machine.specs.Step.{Step, Operands, Asserts, op0_address, op1_address, dst_address, res_of, next_instruction, next_state}
+use Rattle.ro_machine.specs.StepBy.{StepBy, Fetches}
+use Rattle.ro_machine.specs.Stops.{Stops, AssertDiffers, CallDiffers, MissesOperand}
 use Rattle.ro_machine.specs.Stepping.{◌>>=◌, word_or, flags_or, listed, decoded, equal_or, asserted, step_of}
 
 module _ {A B : Type 0} where

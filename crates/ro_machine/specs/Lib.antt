@@ -3,5 +3,7 @@ pub mod Extends
 pub mod Memory
 pub mod Readings
 pub mod Step
+pub mod StepBy
 pub mod Stepping
+pub mod Stops
 pub mod Stretches

@@ -9,7 +9,9 @@ ghost use Rattle.ro_machine.specs.declared.machine.StepFault.{StepFault};
 ghost use Rattle.ro_machine.specs.declared.machine.StepFault.TheVariants.{BadWord};
 ghost use Rattle.ro_machine.specs.Cells.{Cells};
 ghost use Rattle.ro_machine.specs.Extends.{Extends};
-ghost use Rattle.ro_machine.specs.Step.{Step, StepBy, Fetches, Stops};
+ghost use Rattle.ro_machine.specs.Step.{Step};
+ghost use Rattle.ro_machine.specs.StepBy.{StepBy, Fetches};
+ghost use Rattle.ro_machine.specs.Stops.{Stops};
 
 /// A step is the flags of the word at pc and what these flags do.
 pub fn step_by_flags()

@@ -4,7 +4,8 @@
 
 ghost use Rattle.std.specs.Prelude.{◌≡◌, ◌↔◌, Ok, IfErr, if◌then◌else◌};
 ghost use Rattle.std.specs.FinMap.{get};
-ghost use Rattle.ro_machine.specs.Step.{Step, Stops, moved, op0_address, op1_address, dst_address, next_instruction, res_of, pc_after, ap_after, fp_after};
+ghost use Rattle.ro_machine.specs.Step.{Step, moved, op0_address, op1_address, dst_address, next_instruction, res_of, pc_after, ap_after, fp_after};
+ghost use Rattle.ro_machine.specs.Stops.{Stops};
 ghost use Rattle.ro_machine.specs.Stepping.{step_of, listed, decoded, equal_or, asserted, state_after};
 
 use crate::memory::Memory;

@@ -12,7 +12,8 @@ use Rattle.casm_word.specs.Offset.{minus}
 use Rattle.casm_word.specs.Word.{Word, word_of}
 use Rattle.casm_word.proofs.EncodingLaws.{instr_word}
 use Rattle.casm_word.proofs.WordLaws.{one_flags}
-use Rattle.ro_machine.specs.Step.{Step, StepBy}
+use Rattle.ro_machine.specs.Step.{Step}
+use Rattle.ro_machine.specs.StepBy.{StepBy}
 use Rattle.std.proofs.lemmas.Int.{ints}
 use Rattle.std.proofs.lemmas.Bool.{cases_lt}
 use Rattle.std.proofs.lemmas.Option.{slice_get_within}

@@ -5,7 +5,8 @@ use Rattle.felt64.specs.Field.{sum, difference}
 use Rattle.ro_machine.specs.declared.machine.State.{State}
 use Rattle.ro_machine.specs.declared.machine.StepFault.{StepFault}
 use Rattle.ro_machine.specs.Readings.{cells_at}
-use Rattle.ro_machine.specs.Step.{Step, Stops}
+use Rattle.ro_machine.specs.Step.{Step}
+use Rattle.ro_machine.specs.Stops.{Stops}
 use Rattle.sierra_tool.specs.declared.accepted.CheckFault.{CheckFault}
 use Rattle.sierra_tool.specs.declared.accepted.CheckFault.TheVariants as faults
 use Rattle.run_file.specs.declared.run.Run.{Run}
