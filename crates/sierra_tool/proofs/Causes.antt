@@ -15,8 +15,7 @@ use Rattle.sierra_tool.specs.declared.command.Source.{Source}
 use Rattle.sierra_tool.specs.declared.command.Source.TheVariants as sources
 use Rattle.sierra_tool.specs.declared.program.Program.{Program}
 use Rattle.sierra_tool.specs.declared.input.Input.{Input}
-use Rattle.sierra_tool.specs.declared.verdict.Verdict.{Verdict}
-use Rattle.sierra_tool.specs.Causes.{Reading, absent, unread, found, Readings, Holds, IsTooLong, IsRunFile, HasProgram, HasInput, HasRun, CanRun, ComesTo, IsNoRunFile, Cause}
+use Rattle.sierra_tool.specs.Causes.{Reading, absent, unread, found, Readings, Holds, IsRunFile, HasProgram, HasInput, HasRun, CanRun, ComesTo, Cause}
 use Rattle.sierra_tool.specs.Command.{limit}
 use Rattle.sierra_tool.specs.Forms.{IsProgram, IsInput}
 use Rattle.felt64.specs.Field.{modulus}
@@ -26,7 +25,7 @@ use Rattle.sierra_tool.specs.Rejected.{IsRejected}
 use Rattle.sierra_tool.specs.declared.accepted.CheckFault.{CheckFault}
 use Rattle.sierra_tool.proofs.DecidedRuns.{accepted_or_rejected}
 use Rattle.sierra_tool.proofs.RejectedLaws.{not_both, rejected_once}
-use Rattle.sierra_tool.specs.Runs.{IsAccepted, IsVerdict}
+use Rattle.sierra_tool.specs.Runs.{IsAccepted}
 use Rattle.sierra_tool.specs.Stages.{IsUnfit, IsRefused, NoProgram, NoInput, NoRun, OfRun}
 use Rattle.sierra_tool.proofs.FormLaws.{one_program, one_input}
 use Rattle.sierra_tool.proofs.VerdictLaws.{one_verdict, some_verdict}

@@ -1,5 +1,5 @@
 -- The parts of a command's work, put together: what the sources gave, and what that causes.
-use Rattle.std.proofs.Common.{◌≡◌, ◌≢◌, ℕ, ◌+◌, ◌<◌, ◌≤◌, List, length, Option, Some, None, Result, Ok, Err, refl, sym, ◌∙◌, ap, subst, inl, inr, ◌⊎◌, replicate, arith}
+use Rattle.std.proofs.Common.{◌≡◌, ◌≢◌, ℕ, ◌+◌, ◌<◌, ◌≤◌, List, length, Option, Some, None, Result, Ok, Err, refl, sym, subst, inl, inr, ◌⊎◌, replicate, arith}
 use Rattle.std.specs.Prelude.{MatchOption, IsErrAnd}
 use Rattle.std.specs.Global.{Vec}
 use Rattle.std.specs.FinMap.{get}
@@ -22,7 +22,7 @@ use Rattle.sierra_tool.specs.declared.command.Source.{Source}
 use Rattle.sierra_tool.specs.declared.command.Source.TheVariants as sources
 use Rattle.sierra_tool.specs.declared.program.Program.{Program}
 use Rattle.sierra_tool.specs.declared.input.Input.{Input}
-use Rattle.sierra_tool.specs.Causes.{Reading, absent, unread, found, Readings, Gives, AreReadings, Holds, IsTooLong, IsRunFile, HasProgram, HasInput, HasRun, CanRun, ComesTo, Cause}
+use Rattle.sierra_tool.specs.Causes.{Reading, absent, unread, found, Readings, Gives, AreReadings, Holds, IsTooLong, IsRunFile, CanRun, ComesTo, Cause}
 use Rattle.sierra_tool.specs.Command.{limit}
 use Rattle.sierra_tool.specs.Exact.{reading_of}
 use Rattle.sierra_tool.specs.Forms.{IsProgram, IsInput}

@@ -5,7 +5,7 @@ use Rattle.felt64.specs.Field.{sum}
 use Rattle.run_file.specs.declared.run.Run.{Run}
 use Rattle.sierra_tool.specs.Meaning.{entry_gas}
 use Rattle.sierra_tool.specs.Runs.{IsAccepted, IsVerdict}
-use Rattle.sierra_tool.specs.Values.{Val, Number, felt64, meant}
+use Rattle.sierra_tool.specs.Values.{Number, felt64, meant}
 use Rattle.sierra_tool.specs.declared.program.Program.{Program}
 use Rattle.sierra_tool.specs.declared.input.Input.{Input}
 use Rattle.sierra_tool.specs.declared.verdict.Value.{Value}

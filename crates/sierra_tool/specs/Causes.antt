@@ -1,5 +1,5 @@
 -- What the sources of a command gave, and which answer that causes.
-use Rattle.std.specs.Prelude.{ℕ, ◌≡◌, ◌<◌, ◌≤◌, ◌⊎◌, List, length, Option, Some, None, Result, Err, MatchOption}
+use Rattle.std.specs.Prelude.{ℕ, ◌≡◌, ◌<◌, ◌≤◌, ◌⊎◌, List, length, Option, Some, None, Err, MatchOption}
 use Rattle.std.specs.FinMap.{get}
 use Rattle.edge_io.specs.Files.{FileMap}
 use Rattle.run_file.specs.declared.refusal.FileRefusal.{FileRefusal}
