@@ -53,7 +53,7 @@ impl Unfinished {
 
     /// The next number's bytes, which the piece loses. Where too few came, they are kept for the next piece.
     pub fn next(&mut self, piece: &mut &[u8]) -> Option<[u8; 8]>
-        ensures whole { IfSome result (λ number. (self.old ++ piece.old.now ≡ number ++ piece.new.now) × (self.new ≡ [])) }
+        ensures whole { IfSome result (λ number. (length number ≡ 8) × (self.old ++ piece.old.now ≡ number ++ piece.new.now) × (self.new ≡ [])) }
         ensures kept { IfNone result ((self.new ≡ self.old ++ piece.old.now) × (piece.new.now ≡ [])) }
         ensures short { length self.new < 8 }
     {

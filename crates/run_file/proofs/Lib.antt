@@ -1,5 +1,7 @@
 pub mod Order
-pub mod Loops
+pub mod StageLaws
+pub mod EndLaws
+pub mod FeedLaws
 pub mod Fields
 pub mod Listings
 pub mod Runs

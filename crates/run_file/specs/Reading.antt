@@ -1,10 +1,10 @@
 -- Reading a run file from left to right, with the first refusal that is met.
--- A reader takes the length of the file and the bytes that are left of it,
--- and answers what it read and the bytes after it.
-use Rattle.std.specs.Prelude.{◌≡◌, ℕ, zero, suc, ◌+◌, ◌-◌, ◌^◌, List, [], ◌∷◌, length, take, drop, Result, Ok, Err, nat_eq, nat_lt, ◌==◌, if◌then◌else◌}
+-- A reader takes a place in the file, and answers what it read and the place behind it.
+use Rattle.std.specs.Prelude.{◌≡◌, ℕ, ◌+◌, ◌^◌, List, [], ◌∷◌, length, drop, Result, Ok, Err, nat_eq, nat_lt, ◌==◌, if◌then◌else◌}
 use Rattle.std.specs.FinMap.{from_sorted}
 use Rattle.std.specs.List.{starts_with}
-use Rattle.std.specs.Int.{w64, from_le_bytes}
+use Rattle.byte_reading.specs.Reading.{Place, ◌>>=◌, counted}
+use Rattle.byte_reading.specs.Reading as reading_bytes
 use Rattle.felt64.specs.Field.{modulus}
 use Rattle.ro_machine.specs.declared.machine.State.{State}
 use Rattle.run_file.specs.declared.refusal.FileRefusal.{FileRefusal}
@@ -12,105 +12,81 @@ use Rattle.run_file.specs.declared.refusal.FileRefusal.TheVariants as refusals
 use Rattle.run_file.specs.declared.run.Run.{Run}
 use Rattle.run_file.specs.Spelling.{magic, Listing}
 
-infixl 10 ◌>>=◌
-abbrev pub ◌>>=◌ : {A B : Type 0} → Result A FileRefusal → (A → Result B FileRefusal) → Result B FileRefusal
-(Ok x) >>= f = f x
-(Err e) >>= f = Err e
-
--- What a function returned, seen by view, is what reading gives, unless memory ran out.
-abbrev pub Fails : {Y : Type 0} → FileRefusal → Result Y FileRefusal → Type 0
-Fails refusals.Memory read = Unit {0}
-Fails refusals.Magic read = read ≡ Err refusals.Magic
-Fails (refusals.WordRange at) read = read ≡ Err (refusals.WordRange at)
-Fails (refusals.Order at) read = read ≡ Err (refusals.Order at)
-Fails (refusals.Cut at) read = read ≡ Err (refusals.Cut at)
-Fails (refusals.Extra at) read = read ≡ Err (refusals.Extra at)
-Fails refusals.StepsAbove read = read ≡ Err refusals.StepsAbove
-
-abbrev pub Gives : {X Y : Type 0} → (X → Y) → Result X FileRefusal → Result Y FileRefusal → Type 0
-Gives view (Ok x) read = read ≡ Ok (view x)
-Gives view (Err e) read = Fails e read
-
--- The same of a function that leaves these bytes.
-abbrev pub Reads : {X : Type 0} → Result X FileRefusal → List ℕ → Result (X × List ℕ) FileRefusal → Type 0
-Reads result rest read = Gives (λ x. (x, rest)) result read
-
--- the offset in the file of the bytes that are left
-abbrev pub offset_of : ℕ → List ℕ → ℕ
-offset_of size bytes = size - length bytes
-
 -- A byte that differs from the magic goes before the want of a byte.
-unfoldable pub after_magic : List ℕ → Result (List ℕ) FileRefusal
-after_magic bytes =
-    if starts_with nat_eq bytes magic then Ok (drop 8 bytes)
-    else (if starts_with nat_eq magic bytes then Err (refusals.Cut (length bytes)) else Err refusals.Magic)
+unfoldable pub magic_at : Place → Result Place FileRefusal
+magic_at p =
+    if starts_with nat_eq p.rest magic then Ok (record { at = p.at + 8; rest = drop 8 p.rest })
+    else (if starts_with nat_eq magic p.rest then Err (refusals.Cut (p.at + length p.rest)) else Err refusals.Magic)
 
-abbrev pub number_at : ℕ → List ℕ → Result (ℕ × List ℕ) FileRefusal
-number_at size bytes =
-    if nat_lt (length bytes) 8 then Err (refusals.Cut size)
-    else Ok (from_le_bytes w64 (take 8 bytes), drop 8 bytes)
+abbrev pub number_at : Place → Result (ℕ × Place) FileRefusal
+number_at p = reading_bytes.number_at refusals.Cut p
 
-unfoldable pub word_at : ℕ → List ℕ → Result (ℕ × List ℕ) FileRefusal
-word_at size bytes = do
-  n ← number_at size bytes
-  if nat_lt n.0 modulus then Ok n else Err (refusals.WordRange (offset_of size bytes))
+unfoldable pub word_at : Place → Result (ℕ × Place) FileRefusal
+word_at p = do
+  n ← number_at p
+  if nat_lt n.0 modulus then Ok n else Err (refusals.WordRange p.at)
 
 -- an address that is at least this
-unfoldable pub address_at : ℕ → ℕ → List ℕ → Result (ℕ × List ℕ) FileRefusal
-address_at size least bytes = do
-  address ← word_at size bytes
-  if nat_lt address.0 least then Err (refusals.Order (offset_of size bytes)) else Ok address
+unfoldable pub address_at : ℕ → Place → Result (ℕ × Place) FileRefusal
+address_at least p = do
+  address ← word_at p
+  if nat_lt address.0 least then Err (refusals.Order p.at) else Ok address
 
-unfoldable pub cell_at : ℕ → ℕ → List ℕ → Result ((ℕ × ℕ) × List ℕ) FileRefusal
-cell_at size least bytes = do
-  address ← address_at size least bytes
-  word ← word_at size address.1
+unfoldable pub cell_at : ℕ → Place → Result ((ℕ × ℕ) × Place) FileRefusal
+cell_at least p = do
+  address ← address_at least p
+  word ← word_at address.1
   Ok ((address.0, word.0), word.1)
 
 -- so many cells, each above the one before
-unfoldable pub cells_at : ℕ → ℕ → ℕ → List ℕ → Result (List (ℕ × ℕ) × List ℕ) FileRefusal
-cells_at size least zero bytes = Ok ([], bytes)
-cells_at size least (suc n) bytes = do
-  first ← cell_at size least bytes
-  others ← cells_at size (first.0.0 + 1) n first.1
-  Ok (first.0 ∷ others.0, others.1)
+abbrev pub cells_at : ℕ → ℕ → Place → Result (List (ℕ × ℕ) × Place) FileRefusal
+cells_at least n p = counted cell_at (λ (cell : ℕ × ℕ). cell.0 + 1) least n p
 
-unfoldable pub steps_at : ℕ → List ℕ → Result (ℕ × List ℕ) FileRefusal
-steps_at size bytes = do
-  n ← number_at size bytes
+unfoldable pub steps_at : Place → Result (ℕ × Place) FileRefusal
+steps_at p = do
+  n ← number_at p
   if nat_lt n.0 (2 ^ 32) then Ok n else Err refusals.StepsAbove
 
-unfoldable pub state_at : ℕ → List ℕ → Result (State × List ℕ) FileRefusal
-state_at size bytes = do
-  pc ← word_at size bytes
-  ap ← word_at size pc.1
-  fp ← word_at size ap.1
+unfoldable pub state_at : Place → Result (State × Place) FileRefusal
+state_at p = do
+  pc ← word_at p
+  ap ← word_at pc.1
+  fp ← word_at ap.1
   Ok (record { pc = pc.0; ap = ap.0; fp = fp.0 }, fp.1)
 
-unfoldable pub states_at : ℕ → ℕ → List ℕ → Result (List State × List ℕ) FileRefusal
-states_at size zero bytes = Ok ([], bytes)
-states_at size (suc n) bytes = do
-  first ← state_at size bytes
-  others ← states_at size n first.1
-  Ok (first.0 ∷ others.0, others.1)
+abbrev pub states_at : ℕ → Place → Result (List State × Place) FileRefusal
+states_at n p = counted (λ (_ : ℕ). state_at) (λ (_ : State). 0) 0 n p
 
--- all of the bytes
-unfoldable pub listing_of : List ℕ → Result Listing FileRefusal
-listing_of bytes = do
-  rest ← after_magic bytes
-  rc ← word_at (length bytes) rest
-  count ← number_at (length bytes) rc.1
-  cells ← cells_at (length bytes) 0 count.0 count.1
-  steps ← steps_at (length bytes) cells.1
-  states ← states_at (length bytes) (steps.0 + 1) steps.1
-  if length states.1 == 0
-      then Ok (record { rc = rc.0; cells = cells.0; states = states.0 })
-      else Err (refusals.Extra (offset_of (length bytes) states.1))
+-- the bytes end here
+abbrev pub ends_at : Listing → Place → Result Listing FileRefusal
+ends_at l p = if length p.rest == 0 then Ok l else Err (refusals.Extra p.at)
+
+unfoldable pub listing_at : Place → Result Listing FileRefusal
+listing_at p = do
+  start ← magic_at p
+  rc ← word_at start
+  count ← number_at rc.1
+  cells ← cells_at 0 count.0 count.1
+  steps ← steps_at cells.1
+  states ← states_at (steps.0 + 1) steps.1
+  ends_at (record { rc = rc.0; cells = cells.0; states = states.0 }) states.1
 
 abbrev pub run_of : Listing → Run
 run_of l = record { rc = l.rc; memory = from_sorted l.cells; states = l.states }
 
+-- all of the bytes
 unfoldable pub reading : List ℕ → Result Run FileRefusal
 reading bytes = do
-  l ← listing_of bytes
+  l ← listing_at (record { at = 0; rest = bytes })
   Ok (run_of l)
+
+-- what a reader that takes the bytes piece by piece has to refuse by now: a file that ends early may still go on
+abbrev pub refusal_in : {X : Type 0} → Result X FileRefusal → Result Unit FileRefusal
+refusal_in (Ok x) = Ok tt
+refusal_in (Err refusals.Magic) = Err refusals.Magic
+refusal_in (Err (refusals.WordRange at)) = Err (refusals.WordRange at)
+refusal_in (Err (refusals.Order at)) = Err (refusals.Order at)
+refusal_in (Err (refusals.Cut at)) = Ok tt
+refusal_in (Err (refusals.Extra at)) = Err (refusals.Extra at)
+refusal_in (Err refusals.StepsAbove) = Err refusals.StepsAbove
+refusal_in (Err refusals.Memory) = Err refusals.Memory

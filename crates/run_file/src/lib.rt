@@ -3,13 +3,14 @@
 //! The tool reads a run from a file here before the trace check sees it.
 #![tactic(auto)]
 
-mod reading;
+mod laws;
+mod progress;
+mod reader;
 mod refusal;
 mod run;
+mod stage;
 
-pub use reading::{one_run, read, reads_exactly};
+pub use laws::{one_run, reads_exactly};
+pub use reader::{Reader, read};
 pub use refusal::FileRefusal;
 pub use run::{Run, States};
-
-#[cfg(test)]
-mod tests;

@@ -1,7 +1,0 @@
-use Rattle.std.proofs.Common.{◌∙◌, ap, Err}
-use Rattle.run_file.proofs.reading.list.Goals as goal
-
-pub unreachable-requires : goal.unreachable-requires
-unreachable-requires c =
-    let found = (c.insert.ensures.differs c.in-Err-Differs.field-0-0).0 (c.in-Err-Differs.is ∙ ap Err c.in-Err-Differs.field-0-is) in
-    cc (found.0, c.requires)

@@ -1,5 +1,0 @@
-use Rattle.run_file.proofs.Runs.{one_run}
-use Rattle.run_file.proofs.reading.one_run.Goals as goal
-
-pub returns : goal.returns
-returns c = one_run
