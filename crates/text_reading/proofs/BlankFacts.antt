@@ -1,0 +1,139 @@
+-- Blanks: their reader reads them all, and the reader of a token and its blanks.
+use Rattle.std.proofs.Common.{◌≡◌, ℕ, List, [], ◌∷◌, ◌++◌, Bool, true, false, cond, ◌||◌, eqb, Option, None, Some, Result, Ok, Err, refl, sym, ◌∙◌, ap, subst}
+use Rattle.std.specs.Bool.{MatchBool}
+use Rattle.std.proofs.lemmas.Bool.{or_parts}
+use Rattle.text_reading.specs.Tokens.{Spot, Spot.outside, Spot.after_slash, Spot.in_comment, is_blank, NoneNext, BlanksFrom, Blanks}
+use Rattle.text_reading.specs.Reading.{Answer, Answer.answers, Reader, done, ◌>>=◌, scan, scan_from}
+use Rattle.text_reading.specs.TokenReading.{next_spot, blanks_end, blanks_at, token}
+use Rattle.text_reading.proofs.Readers.{Ends, Starts, Opens, IsReader, scan_is, bind_is, bind_starts, done_is, done_starts, then_next}
+
+abbrev pub is_gap : ℕ → Bool
+is_gap byte = is_blank byte || eqb byte 47
+
+-- what may stand behind blanks: the end, or a byte that is no blank and begins no comment
+abbrev pub Fresh : List ℕ → Type 0
+Fresh = NoneNext is_gap
+
+abbrev blanks_from : {K : Type 0} → Spot → Reader K (Unit {0})
+blanks_from = scan next_spot blanks_end
+
+no_more : {K : Type 0} (rest : List ℕ) → Fresh rest → blanks_from {K = K} outside rest ≡ answers (Ok tt) rest
+no_more [] fresh = refl
+no_more (byte ∷ rest) fresh =
+    let both = or_parts (is_blank byte) (eqb byte 47) fresh in
+    rw (both.0, both.1) refl
+
+blanks_end_at : {K : Type 0} (spot : Spot) → Ends Fresh (blanks_from {K = K} spot) []
+blanks_end_at outside = ([], tt, no_more)
+blanks_end_at after_slash = (47 ∷ 10 ∷ [], tt, no_more)
+blanks_end_at in_comment = (10 ∷ [], tt, no_more)
+
+pub blanks_is : {K : Type 0} → IsReader Fresh (blanks_at {K = K})
+unfolding blanks_at
+blanks_is = scan_is next_spot blanks_end blanks_end_at outside
+
+-- no blanks
+pub blanks_none : {K : Type 0} (rest : List ℕ) → Fresh rest → blanks_at {K = K} rest ≡ answers (Ok tt) rest
+unfolding blanks_at
+blanks_none = no_more
+
+-- a line end
+pub blanks_line : {K : Type 0} (rest : List ℕ) → Fresh rest → blanks_at {K = K} (10 ∷ rest) ≡ answers (Ok tt) rest
+unfolding blanks_at
+blanks_line = no_more
+
+pub blanks_starts : {K : Type 0} (behind : List ℕ → Type 0) → ((rest : List ℕ) → behind (10 ∷ rest)) → Starts behind Fresh (blanks_at {K = K})
+blanks_starts behind line = (10 ∷ [], tt, λ rest fresh. (line rest, blanks_line rest fresh))
+
+-- ---- what was read, and the blanks behind it
+
+module _ {K A : Type 0} {behind : List ℕ → Type 0} (reader : Reader K A) (is : IsReader behind reader) (line : (rest : List ℕ) → behind (10 ∷ rest)) where
+  abbrev then_blanks : A → Reader K A
+  then_blanks x = blanks_at >>= λ _. done x
+
+  then_blanks_is : (x : A) → IsReader Fresh (then_blanks x)
+  then_blanks_is x = bind_is blanks_at (λ _. done x) blanks_is (λ _. done_is Fresh x) (λ _. done_starts Fresh x)
+
+  then_blanks_starts : (x : A) → Starts behind Fresh (then_blanks x)
+  then_blanks_starts x = bind_starts behind Fresh Fresh blanks_at (λ _. done x) (blanks_starts behind line) (λ _. done_starts Fresh x)
+
+  pub token_is : IsReader Fresh (token reader)
+  token_is = bind_is reader then_blanks is then_blanks_is then_blanks_starts
+
+  pub token_starts : Starts Fresh behind reader → Starts Fresh Fresh (token reader)
+  token_starts starts = bind_starts Fresh behind Fresh reader then_blanks starts then_blanks_starts
+
+pub token_reads : {K A : Type 0} (reader : Reader K A) (text between rest : List ℕ) (x : A)
+    → reader text ≡ answers (Ok x) between → blanks_at {K = K} between ≡ answers (Ok tt) rest → token reader text ≡ answers (Ok x) rest
+token_reads {K} {A} reader text between rest x read blank =
+    let then_blanks : A → Reader K A = λ y. blanks_at >>= λ _. done y in
+    then_next reader then_blanks text between x (answers (Ok x) rest) read (then_next blanks_at (λ _. done x) between rest tt (answers (Ok x) rest) blank refl)
+
+-- ---- they are the blanks of a text
+
+module _ (K : Type 0) (byte : ℕ) (text rest : List ℕ) where
+  abbrev Sound : Spot → Type 0
+  Sound spot = blanks_from {K = K} spot text ≡ answers (Ok tt) rest → BlanksFrom spot text rest
+
+  abbrev Complete : Spot → Type 0
+  Complete spot = BlanksFrom spot text rest → blanks_from {K = K} spot text ≡ answers (Ok tt) rest
+
+  abbrev step : Option Spot → Spot → Answer K (Unit {0})
+  step after spot = scan_from {K = K} next_spot blanks_end after spot byte text (λ a. blanks_from a text)
+
+  sound_outside : (blank slash : Bool) → ((spot : Spot) → Sound spot) → step (cond blank (Some outside) (cond slash (Some after_slash) None)) outside ≡ answers (Ok tt) rest
+      → MatchBool blank (BlanksFrom outside text rest) (MatchBool slash (BlanksFrom after_slash text rest) (rest ≡ byte ∷ text))
+  sound_outside true slash more e = more outside e
+  sound_outside false true more e = more after_slash e
+  sound_outside false false more e = cc
+
+  sound_slash : (slash : Bool) → ((spot : Spot) → Sound spot) → step (cond slash (Some in_comment) None) after_slash ≡ answers (Ok tt) rest
+      → MatchBool slash (BlanksFrom in_comment text rest) ⊥
+  sound_slash true more e = more in_comment e
+  sound_slash false more e = cc
+
+  sound_comment : (line : Bool) → ((spot : Spot) → Sound spot) → step (cond line (Some outside) (Some in_comment)) in_comment ≡ answers (Ok tt) rest
+      → MatchBool line (BlanksFrom outside text rest) (BlanksFrom in_comment text rest)
+  sound_comment true more e = more outside e
+  sound_comment false more e = more in_comment e
+
+  complete_outside : (blank slash : Bool) → ((spot : Spot) → Complete spot)
+      → MatchBool blank (BlanksFrom outside text rest) (MatchBool slash (BlanksFrom after_slash text rest) (rest ≡ byte ∷ text))
+      → step (cond blank (Some outside) (cond slash (Some after_slash) None)) outside ≡ answers (Ok tt) rest
+  complete_outside true slash more h = more outside h
+  complete_outside false true more h = more after_slash h
+  complete_outside false false more h = ap (answers (Ok tt)) (sym h)
+
+  complete_slash : (slash : Bool) → ((spot : Spot) → Complete spot) → MatchBool slash (BlanksFrom in_comment text rest) ⊥
+      → step (cond slash (Some in_comment) None) after_slash ≡ answers (Ok tt) rest
+  complete_slash true more h = more in_comment h
+  complete_slash false more h = absurd h
+
+  complete_comment : (line : Bool) → ((spot : Spot) → Complete spot) → MatchBool line (BlanksFrom outside text rest) (BlanksFrom in_comment text rest)
+      → step (cond line (Some outside) (Some in_comment)) in_comment ≡ answers (Ok tt) rest
+  complete_comment true more h = more outside h
+  complete_comment false more h = more in_comment h
+
+sound_from : {K : Type 0} (text rest : List ℕ) (spot : Spot) → blanks_from {K = K} spot text ≡ answers (Ok tt) rest → BlanksFrom spot text rest
+sound_from [] rest outside e = cc
+sound_from [] rest after_slash e = absurd cc
+sound_from [] rest in_comment e = cc
+sound_from {K} (byte ∷ text) rest outside e = sound_outside K byte text rest (is_blank byte) (eqb byte 47) (sound_from text rest) e
+sound_from {K} (byte ∷ text) rest after_slash e = sound_slash K byte text rest (eqb byte 47) (sound_from text rest) e
+sound_from {K} (byte ∷ text) rest in_comment e = sound_comment K byte text rest (eqb byte 10) (sound_from text rest) e
+
+complete_from : {K : Type 0} (text rest : List ℕ) (spot : Spot) → BlanksFrom spot text rest → blanks_from {K = K} spot text ≡ answers (Ok tt) rest
+complete_from [] rest outside h = ap (answers (Ok tt)) (sym h)
+complete_from [] rest after_slash h = absurd h
+complete_from [] rest in_comment h = ap (answers (Ok tt)) (sym h)
+complete_from {K} (byte ∷ text) rest outside h = complete_outside K byte text rest (is_blank byte) (eqb byte 47) (complete_from text rest) h
+complete_from {K} (byte ∷ text) rest after_slash h = complete_slash K byte text rest (eqb byte 47) (complete_from text rest) h
+complete_from {K} (byte ∷ text) rest in_comment h = complete_comment K byte text rest (eqb byte 10) (complete_from text rest) h
+
+pub blanks_sound : {K : Type 0} (text rest : List ℕ) → blanks_at {K = K} text ≡ answers (Ok tt) rest → Blanks text rest
+unfolding blanks_at
+blanks_sound text rest e = sound_from text rest outside e
+
+pub blanks_complete : {K : Type 0} (text rest : List ℕ) → Blanks text rest → blanks_at {K = K} text ≡ answers (Ok tt) rest
+unfolding blanks_at
+blanks_complete text rest h = complete_from text rest outside h

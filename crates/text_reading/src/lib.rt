@@ -1,0 +1,2 @@
+//! Readers of texts.
+#![tactic(auto)]
