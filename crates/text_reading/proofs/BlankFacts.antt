@@ -48,10 +48,10 @@ blanks_starts behind line = (10 ∷ [], tt, λ rest fresh. (line rest, blanks_li
 -- ---- what was read, and the blanks behind it
 
 module _ {K A : Type 0} {behind : List ℕ → Type 0} (reader : Reader K A) (is : IsReader behind reader) (line : (rest : List ℕ) → behind (10 ∷ rest)) where
-  abbrev then_blanks : A → Reader K A
+  abbrev pub then_blanks : A → Reader K A
   then_blanks x = blanks_at >>= λ _. done x
 
-  then_blanks_is : (x : A) → IsReader Fresh (then_blanks x)
+  pub then_blanks_is : (x : A) → IsReader Fresh (then_blanks x)
   then_blanks_is x = bind_is blanks_at (λ _. done x) blanks_is (λ _. done_is Fresh x) (λ _. done_starts Fresh x)
 
   then_blanks_starts : (x : A) → Starts behind Fresh (then_blanks x)

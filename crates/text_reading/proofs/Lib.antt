@@ -4,3 +4,4 @@ pub mod Decimals
 pub mod BlankFacts
 pub mod TokenFacts
 pub mod NumberFacts
+pub mod WholeTexts

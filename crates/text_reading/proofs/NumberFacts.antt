@@ -1,14 +1,15 @@
 -- Numbers: their reader reads what their form says, and a limit changes no more than where they pass it.
 use Rattle.std.proofs.Common.{◌≡◌, ◌≢◌, ℕ, zero, suc, ◌+◌, ◌*◌, ◌-◌, ◌/◌, ◌%◌, ◌<◌, ◌≤◌, List, [], ◌∷◌, ◌++◌, length, Bool, true, false, cond, not, ◌||◌, ◌&&◌, eqb, leb, ltb, Option, None, Some, Result, Ok, Err, refl, sym, ◌∙◌, ap, subst, append_assoc, arith, inl, inr, ◌⊎◌}
-use Rattle.std.proofs.lemmas.Bool.{or_parts, and_parts, and_from, and_left, and_right, eqb-true, eqb-false, eq-eqb, ne_eqb, leb-true, le-leb, lt-ltb, ltb-true, cases_eq, cases_lt, cases_Bool}
+use Rattle.std.proofs.lemmas.Bool.{or_parts, or_left, and_parts, and_from, and_left, and_right, eqb-true, eqb-false, eq-eqb, ne_eqb, leb-true, le-leb, lt-ltb, ltb-true, cases_eq, cases_lt, cases_Bool}
 use Rattle.std.proofs.lemmas.List.{append-nil}
 use Rattle.felt64.specs.Decimal.{decimal_text}
 use Rattle.text_reading.specs.Tokens.{is_digit, is_within, NoneNext, Digits, Blanks, Number}
 use Rattle.text_reading.specs.Reading.{first, Answer, Answer.answers, Reader, done, ◌>>=◌, scan, scan_from, go_on}
 use Rattle.text_reading.specs.TokenReading.{token, longer, next_number, number_end, digits_at, number_at}
-use Rattle.text_reading.proofs.Readers.{not_longer, scan_takes}
+use Rattle.text_reading.proofs.Readers.{not_longer, scan_short}
+use Rattle.text_reading.proofs.Limits.{Passes, Lifted, Lifted.kept, Lifted.passed, Lifts, lifts_itself, scan_never}
 use Rattle.text_reading.proofs.Decimals.{digit_text, longer_text}
-use Rattle.text_reading.proofs.TokenFacts.{number_from, number_ends, IsWide, token_sound, token_complete}
+use Rattle.text_reading.proofs.TokenFacts.{number_from, number_ends, digits_is, token_lifts, IsWide, token_sound, token_complete}
 
 pub digit_bounds : (byte : ℕ) → is_digit byte ≡ true → (48 ≤ byte) × (byte ≤ 57)
 digit_bounds byte is =
@@ -115,3 +116,176 @@ module _ {K : Type 0} (limit : Option ℕ) (zero_too : Bool) (kind : K) where
           → Digits limit m (byte ∷ text) rest × (zero_too ≡ false → m ≢ 0)
       go true is e = let tests = and_parts (is_digit byte) (zero_too || not (eqb byte 48)) is in first_digit tests.0 tests.1 e (cases_eq byte 48)
       go false is e = absurd cc
+
+  -- the digits of a number above 0 lead to it
+  complete_digits : (most n : ℕ) (tail : List ℕ) → n ≤ most → 0 < n → is_within limit n ≡ true → from None (decimal_text n ++ tail) ≡ from (Some n) tail
+  complete_digits zero n tail below above within = absurd (omega arith)
+  complete_digits (suc most) n tail below above within =
+      elim (cases_lt n 10) [
+        | inl small ↦ one_digit small
+        | inr long ↦ more_digits long (complete_digits most (n / 10) (((48 + n % 10)) ∷ tail) (omega arith) (omega arith) (smaller limit within))
+      ]
+    where
+      one_digit : n < 10 → from None (decimal_text n ++ tail) ≡ from (Some n) tail
+      one_digit small =
+          let is = digit_is (48 + n) (omega arith) (omega arith) in
+          let other : eqb (48 + n) 48 ≡ false = ne_eqb (48 + n) 48 (λ e. omega arith) in
+          let may : (zero_too || not (eqb (48 + n) 48)) ≡ true = rw other (always zero_too) in
+          let value : (48 + n) - 48 ≡ n = omega arith in
+          rw (digit_text n small) (rw (is, may, value) refl)
+        where
+          always : (b : Bool) → (b || true) ≡ true
+          always true = refl
+          always false = refl
+      smaller : (l : Option ℕ) → is_within l n ≡ true → is_within l (n / 10) ≡ true
+      smaller None within = refl
+      smaller (Some most_of) within = let below_it = ltb-true n most_of within in lt-ltb (n / 10) most_of (omega arith)
+      more_digits : 10 ≤ n → from None (decimal_text (n / 10) ++ ((48 + n % 10) ∷ tail)) ≡ from (Some (n / 10)) ((48 + n % 10) ∷ tail)
+          → from None (decimal_text n ++ tail) ≡ from (Some n) tail
+      more_digits long front =
+          let digit : n % 10 < 10 = omega arith in
+          let value : n / 10 * 10 + n % 10 ≡ n = omega arith in
+          let text : decimal_text n ≡ decimal_text (n / 10) ++ ((48 + n % 10) ∷ []) =
+              ap decimal_text (sym value) ∙ longer_text (n / 10) (n % 10) (omega arith) digit in
+          let whole : decimal_text n ++ tail ≡ decimal_text (n / 10) ++ ((48 + n % 10) ∷ tail) =
+              ap (λ (t : List ℕ). t ++ tail) text ∙ append_assoc (decimal_text (n / 10)) ((48 + n % 10) ∷ []) tail in
+          ap (from None) whole ∙ front ∙ last_digit digit value
+        where
+          last_digit : n % 10 < 10 → n / 10 * 10 + n % 10 ≡ n → from (Some (n / 10)) ((48 + n % 10) ∷ tail) ≡ from (Some n) tail
+          last_digit digit value =
+              let is = digit_is (48 + n % 10) (omega arith) (omega arith) in
+              let longer_is : n / 10 * 10 + ((48 + n % 10) - 48) ≡ n = omega arith in
+              let some : eqb (n / 10) 0 ≡ false = ne_eqb (n / 10) 0 (λ e. omega arith) in
+              rw (some, is, longer_is, within) refl
+
+  -- a number's text is read
+  pub digits_complete : (text rest : List ℕ) (m : ℕ) → Digits limit m text rest → (zero_too ≡ false → m ≢ 0) → digits_at limit zero_too kind text ≡ answers (Ok m) rest
+  unfolding digits_at
+  digits_complete text rest m form some = ap (from None) form.text_is ∙ go (cases_eq m 0)
+    where
+      zero_read : zero_too ≡ true → from None (48 ∷ rest) ≡ from (Some 0) rest
+      zero_read may =
+          let test : (zero_too || false) ≡ true = or_left zero_too false may in
+          ap (λ b. scan_from (next_number limit zero_too) (number_end kind) (cond b (Some (Some 0)) None) None 48 rest (λ a. from a rest)) test
+      go : (m ≡ 0) ⊎ (m ≡ 0 → ⊥) → from None (decimal_text m ++ rest) ≡ answers (Ok m) rest
+      go (inl none) =
+          let may : zero_too ≡ true = elim (cases_Bool zero_too) [ inl may ↦ may | inr none_too ↦ absurd (some none_too none) ] in
+          let text_is : decimal_text m ++ rest ≡ 48 ∷ rest = rw (none, digit_text 0 (omega arith)) refl in
+          ap (from None) text_is ∙ zero_read may ∙ number_ends limit zero_too kind 0 rest form.whole ∙ ap (λ n. answers (Ok n) rest) (sym none)
+      go (inr above) =
+          complete_digits m m rest (omega arith) (omega arith) form.within ∙ number_ends limit zero_too kind m rest form.whole
+
+  -- ---- with their blanks
+
+  pub number_sound : IsWide limit → (text rest : List ℕ) (m : ℕ) → number_at limit zero_too kind text ≡ answers (Ok m) rest
+      → Number limit m text rest × (zero_too ≡ false → m ≢ 0)
+  unfolding number_at
+  number_sound wide text rest m e =
+      let token_parts = token_sound (digits_at limit zero_too kind) text rest m e in
+      let read = digits_sound wide text token_parts.0 m token_parts.1 in
+      ((token_parts.0, read.0, token_parts.2), read.1)
+
+  pub number_complete : (text rest : List ℕ) (m : ℕ) → Number limit m text rest → (zero_too ≡ false → m ≢ 0) → number_at limit zero_too kind text ≡ answers (Ok m) rest
+  unfolding number_at
+  number_complete text rest m form some =
+      token_complete (digits_at limit zero_too kind) text form.0 rest m (digits_complete text form.0 m form.1 some) form.2
+
+  -- ---- limits
+
+  abbrev bare : Option ℕ → Reader K ℕ
+  bare = number_from None zero_too kind
+
+  -- the state behind a byte
+  abbrev step : (Option ℕ → ℕ → Option (Option ℕ)) → Option (Option ℕ) → Option ℕ → ℕ → List ℕ → Answer K ℕ
+  step next after state byte text = scan_from next (number_end kind) after state byte text (λ a. scan next (number_end kind) a text)
+
+  one_more : (state after : Option ℕ) (byte : ℕ) (taken rest : List ℕ) (out : Result ℕ (Option K)) → ((text : List ℕ) → bare state (byte ∷ text) ≡ bare after text)
+      → Lifted kind (bare after) taken rest out → Lifted kind (bare state) (byte ∷ taken) rest out
+  one_more state after byte taken rest out goes (kept never same) = kept never (goes (taken ++ rest) ∙ same)
+  one_more state after byte taken rest out goes (passed p digit more rest_is is bare_out same) = passed p digit more rest_is is bare_out (goes (taken ++ (digit ∷ [])) ∙ same)
+
+  -- a number ends at a byte
+  lifts_end : (n byte : ℕ) (more : List ℕ) (out : Result ℕ (Option K)) → number_end kind (Some n) (Some byte) ≡ out → goes_on n byte ≡ false
+      → Lifted kind (bare (Some n)) [] (byte ∷ more) out
+  lifts_end n byte more out out_is ends = go (eqb n 0) (is_digit byte) refl refl
+    where
+      stays : (not (eqb n 0) && (is_digit byte && true)) ≡ false → bare (Some n) (byte ∷ more) ≡ answers out (byte ∷ more)
+      stays test = ap (λ b. step (next_number None zero_too) (cond b (Some (Some (longer n byte))) None) (Some n) byte more) test ∙ ap (λ o. answers o (byte ∷ more)) out_is
+      go : (z d : Bool) → eqb n 0 ≡ z → is_digit byte ≡ d → Lifted kind (bare (Some n)) [] (byte ∷ more) out
+      go z false z_is d_is =
+          let value : number_end kind (Some n) (Some byte) ≡ Ok n = rw d_is refl in
+          let test : (not (eqb n 0) && (is_digit byte && true)) ≡ false = and_right (not (eqb n 0)) (is_digit byte && true) (rw d_is refl) in
+          kept (λ p. subst (Passes kind) (sym out_is ∙ value) p) (stays test)
+      go true true z_is d_is =
+          let value : number_end kind (Some n) (Some byte) ≡ Err None = rw (d_is, z_is) refl in
+          let test : (not (eqb n 0) && (is_digit byte && true)) ≡ false = rw z_is refl in
+          kept (λ p. subst (Passes kind) (sym out_is ∙ value) p) (stays test)
+      go false true z_is d_is =
+          let value : number_end kind (Some n) (Some byte) ≡ Err (Some kind) = rw (d_is, z_is) refl in
+          let test : (not (eqb n 0) && (is_digit byte && true)) ≡ true = rw (z_is, d_is) refl in
+          passed (subst (Passes kind) (sym value ∙ out_is) refl) byte more refl d_is (Ok (longer n byte))
+              (ap (λ b. step (next_number None zero_too) (cond b (Some (Some (longer n byte))) None) (Some n) byte []) test)
+
+  lifts_from : (taken rest : List ℕ) (state : Option ℕ) (out : Result ℕ (Option K)) → from state (taken ++ rest) ≡ answers out rest → Lifted kind (bare state) taken rest out
+  lifts_from [] [] None out e = kept (λ p. let out_is : out ≡ Err None = cc in subst (Passes kind) out_is p) e
+  lifts_from [] [] (Some n) out e = kept (λ p. let out_is : out ≡ Ok n = cc in subst (Passes kind) out_is p) e
+  lifts_from [] (byte ∷ more) None out e = go (is_digit byte && (zero_too || not (eqb byte 48))) refl e
+    where
+      go : (b : Bool) → (is_digit byte && (zero_too || not (eqb byte 48))) ≡ b
+          → step (next_number limit zero_too) (cond b (Some (Some (byte - 48))) None) None byte more ≡ answers out (byte ∷ more) → Lifted kind (bare None) [] (byte ∷ more) out
+      go true is e = absurd (scan_short (next_number limit zero_too) (number_end kind) (Some (byte - 48)) byte more out e)
+      go false is e =
+          let out_is : out ≡ Err None = cc in
+          kept (λ p. subst (Passes kind) out_is p)
+              (ap (λ b. step (next_number None zero_too) (cond b (Some (Some (byte - 48))) None) None byte more) is ∙ ap (λ o. answers o (byte ∷ more)) (sym out_is))
+  lifts_from [] (byte ∷ more) (Some n) out e = go (goes_on n byte) refl e
+    where
+      go : (b : Bool) → goes_on n byte ≡ b → step (next_number limit zero_too) (cond b (Some (Some (longer n byte))) None) (Some n) byte more ≡ answers out (byte ∷ more)
+          → Lifted kind (bare (Some n)) [] (byte ∷ more) out
+      go true is e = absurd (scan_short (next_number limit zero_too) (number_end kind) (Some (longer n byte)) byte more out e)
+      go false is e = lifts_end n byte more out (cc) is
+  lifts_from (byte ∷ taken) rest None out e = go (is_digit byte && (zero_too || not (eqb byte 48))) refl (lifts_from taken rest (Some (byte - 48)) out) e
+    where
+      go : (b : Bool) → (is_digit byte && (zero_too || not (eqb byte 48))) ≡ b
+          → (from (Some (byte - 48)) (taken ++ rest) ≡ answers out rest → Lifted kind (bare (Some (byte - 48))) taken rest out)
+          → step (next_number limit zero_too) (cond b (Some (Some (byte - 48))) None) None byte (taken ++ rest) ≡ answers out rest → Lifted kind (bare None) (byte ∷ taken) rest out
+      go true is more e =
+          one_more None (Some (byte - 48)) byte taken rest out
+              (λ text. ap (λ b. step (next_number None zero_too) (cond b (Some (Some (byte - 48))) None) None byte text) is) (more e)
+      go false is more e = let whole : byte ∷ (taken ++ rest) ≡ rest = cc in let none = not_longer (byte ∷ taken) rest whole in absurd cc
+  lifts_from (byte ∷ taken) rest (Some n) out e = go (goes_on n byte) refl (lifts_from taken rest (Some (longer n byte)) out) e
+    where
+      go : (b : Bool) → goes_on n byte ≡ b
+          → (from (Some (longer n byte)) (taken ++ rest) ≡ answers out rest → Lifted kind (bare (Some (longer n byte))) taken rest out)
+          → step (next_number limit zero_too) (cond b (Some (Some (longer n byte))) None) (Some n) byte (taken ++ rest) ≡ answers out rest
+          → Lifted kind (bare (Some n)) (byte ∷ taken) rest out
+      go true is more e =
+          let tests = and_parts (not (eqb n 0)) (is_digit byte && is_within limit (longer n byte)) is in
+          let others = and_parts (is_digit byte) (is_within limit (longer n byte)) tests.1 in
+          let test : (not (eqb n 0) && (is_digit byte && true)) ≡ true = and_from (not (eqb n 0)) (is_digit byte && true) tests.0 (and_from (is_digit byte) true others.0 refl) in
+          one_more (Some n) (Some (longer n byte)) byte taken rest out
+              (λ text. ap (λ b. step (next_number None zero_too) (cond b (Some (Some (longer n byte))) None) (Some n) byte text) test) (more e)
+      go false is more e = let whole : byte ∷ (taken ++ rest) ≡ rest = cc in let none = not_longer (byte ∷ taken) rest whole in absurd cc
+
+  pub number_lifts : Lifts kind (number_at limit zero_too kind) (number_at None zero_too kind)
+  unfolding number_at digits_at
+  number_lifts = token_lifts kind (digits_at limit zero_too kind) (digits_at None zero_too kind) (digits_is limit zero_too kind) (digits_is None zero_too kind) (λ rest. refl) digits_lifts
+    where
+      digits_lifts : Lifts kind (digits_at limit zero_too kind) (digits_at None zero_too kind)
+      digits_lifts taken rest out e = lifts_from taken rest None out e
+
+  -- a number of another kind is no stop of this kind
+  pub number_keeps : (other : K) → other ≢ kind → Lifts other (number_at limit zero_too kind) (number_at limit zero_too kind)
+  unfolding number_at digits_at
+  number_keeps other differs = token_lifts other (digits_at limit zero_too kind) (digits_at limit zero_too kind) (digits_is limit zero_too kind) (digits_is limit zero_too kind) (λ rest. refl) digits_keep
+    where
+      at_end : (n : ℕ) (byte : ℕ) (b z : Bool) → Passes {A = ℕ} other (cond b (Err (cond z None (Some kind))) (Ok n)) → ⊥
+      at_end n byte true true p = p
+      at_end n byte true false p = differs (sym p)
+      at_end n byte false z p = p
+      never : (state : Option ℕ) (byte : Option ℕ) → Passes other (number_end kind state byte) → ⊥
+      never None byte p = p
+      never (Some n) None p = p
+      never (Some n) (Some byte) p = at_end n byte (is_digit byte) (eqb n 0) p
+      digits_keep : Lifts other (digits_at limit zero_too kind) (digits_at limit zero_too kind)
+      digits_keep = lifts_itself other (from None) (λ text rest out e p. scan_never other (next_number limit zero_too) (number_end kind) never text None rest out e p)

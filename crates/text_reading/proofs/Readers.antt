@@ -250,7 +250,7 @@ module _ {K A S : Type 0} (next : S → ℕ → Option S) (finish : S → Option
       go None more e = ([], let same : byte ∷ bytes ≡ rest = cc in same)
       go (Some after) more e = let front = more after e in (byte ∷ front.0, ap (λ (t : List ℕ). byte ∷ t) front.1)
 
-  scan_short : (state : S) (byte : ℕ) (bytes : List ℕ) (out : Result A (Option K)) → scan next finish state bytes ≡ answers out (byte ∷ bytes) → ⊥
+  pub scan_short : (state : S) (byte : ℕ) (bytes : List ℕ) (out : Result A (Option K)) → scan next finish state bytes ≡ answers out (byte ∷ bytes) → ⊥
   scan_short state byte bytes out e =
       let front = scan_takes state bytes (byte ∷ bytes) out e in
       omega (arith, ap length front.1, length-append front.0 (byte ∷ bytes))

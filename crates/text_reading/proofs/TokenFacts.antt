@@ -4,12 +4,13 @@ use Rattle.std.specs.Option.{MatchOption}
 use Rattle.std.proofs.lemmas.Bool.{or_parts, and_parts, and_from, and_left, and_right, eqb-true, eqb-false, eq-eqb, ne_eqb, leb-true, le-leb, cases_eq, cases_Bool}
 use Rattle.std.proofs.lemmas.List.{append-nil}
 use Rattle.felt64.specs.Decimal.{decimal_text}
-use Rattle.text_reading.specs.Tokens.{is_digit, is_word_byte, is_within, NoneNext, ◌then◌, Blanks, Literal, Mark, WholeWord, Word, Digits, Number}
+use Rattle.text_reading.specs.Tokens.{Spot, Spot.outside, Spot.after_slash, Spot.in_comment, is_digit, is_word_byte, is_within, NoneNext, ◌then◌, Blanks, Literal, Mark, WholeWord, Word, Digits, Number}
 use Rattle.text_reading.specs.Reading.{first, Answer, Answer.answers, Reader, done, ◌>>=◌, scan, scan_from, go_on}
-use Rattle.text_reading.specs.TokenReading.{token, blanks_at, next_literal, literal_end, literal_at, mark_at, word_end, word_at, longer, next_number, number_end, digits_at, number_at}
-use Rattle.text_reading.proofs.Readers.{Ends, Starts, Opens, IsReader, scan_is, bind_is, then_next}
+use Rattle.text_reading.specs.TokenReading.{token, next_spot, blanks_end, blanks_at, next_literal, literal_end, literal_at, mark_at, word_end, word_at, longer, next_number, number_end, digits_at, number_at}
+use Rattle.text_reading.proofs.Readers.{Ends, Starts, Opens, IsReader, scan_is, bind_is, done_is, then_next}
+use Rattle.text_reading.proofs.Limits.{Passes, Lifts, lifts_itself, lifts_done, bind_lifts, scan_never}
 use Rattle.text_reading.proofs.Decimals.{digit_text, longer_text}
-use Rattle.text_reading.proofs.BlankFacts.{Fresh, blanks_is, blanks_none, blanks_line, blanks_sound, blanks_complete, token_is, token_starts, token_reads}
+use Rattle.text_reading.proofs.BlankFacts.{Fresh, blanks_is, blanks_none, blanks_line, blanks_sound, blanks_complete, then_blanks_is, token_is, token_starts, token_reads}
 
 abbrev pub Anything : List ℕ → Type 0
 Anything rest = Unit {0}
@@ -39,6 +40,24 @@ token_sound {K} {A} reader text rest x e = go (reader text) refl e
 pub token_complete : {K A : Type 0} (reader : Reader K A) (text between rest : List ℕ) (x : A) → reader text ≡ answers (Ok x) between → Blanks between rest
     → token reader text ≡ answers (Ok x) rest
 token_complete {K} reader text between rest x read blanks = token_reads reader text between rest x read (blanks_complete {K = K} between rest blanks)
+
+-- ---- limits change a token as they change what is read
+
+pub blanks_lift : {K : Type 0} (kind : K) → Lifts kind (blanks_at {K = K}) blanks_at
+unfolding blanks_at
+blanks_lift kind = lifts_itself kind blanks_at (λ text rest out e p. scan_never kind next_spot blanks_end never text outside rest out e p)
+  where
+    never : (spot : Spot) (byte : Option ℕ) → Passes kind (blanks_end spot byte) → ⊥
+    never outside byte p = p
+    never after_slash byte p = p
+    never in_comment byte p = p
+
+pub token_lifts : {K A : Type 0} {behind : List ℕ → Type 0} (kind : K) (reader bare : Reader K A) → IsReader behind reader → IsReader behind bare
+    → ((rest : List ℕ) → behind (10 ∷ rest)) → Lifts kind reader bare → Lifts kind (token reader) (token bare)
+token_lifts {K} {A} {behind} kind reader bare is bare_is line lifts =
+    let blanks_behind : A → Reader K A = λ x. blanks_at >>= λ _. done x in
+    bind_lifts kind reader bare blanks_behind blanks_behind is (then_blanks_is reader is line) bare_is (then_blanks_is reader is line) lifts
+        (λ x. bind_lifts kind blanks_at blanks_at (λ _. done x) (λ _. done x) blanks_is (λ _. done_is Fresh x) blanks_is (λ _. done_is Fresh x) (blanks_lift kind) (λ _. lifts_done kind x))
 
 -- ---- marks
 
@@ -88,6 +107,16 @@ unfolding mark_at literal_at
 mark_complete bytes text rest form =
     token_complete (literal_at bytes) text form.0 rest tt (ap (literal_from bytes) form.1 ∙ literal_reads bytes form.0) form.2
 
+never_literal : {K : Type 0} (kind : K) (state : List ℕ) (byte : Option ℕ) → Passes kind (literal_end state byte) → ⊥
+never_literal kind [] byte p = p
+never_literal kind (wanted ∷ more) byte p = p
+
+pub mark_lifts : {K : Type 0} (kind : K) (bytes : List ℕ) → Lifts kind (mark_at bytes) (mark_at bytes)
+unfolding mark_at literal_at
+mark_lifts kind bytes =
+    token_lifts kind (literal_at bytes) (literal_at bytes) (literal_is bytes) (literal_is bytes) (λ rest. tt)
+        (lifts_itself kind (literal_at bytes) (λ text rest out e p. scan_never kind next_literal literal_end (never_literal kind) text bytes rest out e p))
+
 -- ---- words
 
 abbrev unit_answer : (K : Type 0) → Result (Unit {0}) (Option K) → List ℕ → Answer K (Unit {0})
@@ -120,9 +149,27 @@ word_sound_from {K} (wanted ∷ bytes) (byte ∷ text) rest e = go (eqb byte wan
     go true is more e = let one = eqb-true byte wanted is in let others = more e in let tail = others.0 in (cc, others.1)
     go false is more e = absurd cc
 
+word_from_is : {K : Type 0} (bytes : List ℕ) → IsReader (NoneNext is_word_byte) (word_from {K = K} bytes)
+word_from_is bytes = scan_is next_literal word_end (λ more. (more, tt, λ rest ends. word_reads more rest ends)) bytes
+
+never_word : {K : Type 0} (kind : K) (state : List ℕ) (byte : Option ℕ) → Passes kind (word_end state byte) → ⊥
+never_word kind [] None p = p
+never_word {K} kind [] (Some byte) p = go (is_word_byte byte) p
+  where
+    go : (b : Bool) → Passes {A = Unit {0}} kind (cond b (Err None) (Ok tt)) → ⊥
+    go true p = p
+    go false p = p
+never_word kind (wanted ∷ more) byte p = p
+
+pub word_lifts : {K : Type 0} (kind : K) (bytes : List ℕ) → Lifts kind (word_at bytes) (word_at bytes)
+unfolding word_at
+word_lifts kind bytes =
+    token_lifts kind (word_from bytes) (word_from bytes) (word_from_is bytes) (word_from_is bytes) (λ rest. refl)
+        (lifts_itself kind (word_from bytes) (λ text rest out e p. scan_never kind next_literal word_end (never_word kind) text bytes rest out e p))
+
 pub word_is : {K : Type 0} (bytes : List ℕ) → IsReader Fresh (word_at {K = K} bytes)
 unfolding word_at
-word_is bytes = token_is (word_from bytes) (scan_is next_literal word_end (λ more. (more, tt, λ rest ends. word_reads more rest ends)) bytes) (λ rest. refl)
+word_is bytes = token_is (word_from bytes) (word_from_is bytes) (λ rest. refl)
 
 pub word_opens : {K : Type 0} (byte : ℕ) (bytes : List ℕ) → Opens byte Fresh (word_at {K = K} (byte ∷ bytes))
 unfolding word_at

@@ -1,3 +1,4 @@
 pub mod Tokens
+pub mod Places
 pub mod Reading
 pub mod TokenReading

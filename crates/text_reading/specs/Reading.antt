@@ -1,6 +1,6 @@
 -- Readers of texts as functions on the bytes. A reader takes bytes from the head of a text, and answers a tree or
 -- why it stops, with the bytes that are left.
-use Rattle.std.specs.Prelude.{◌≡◌, ℕ, ◌+◌, List, [], ◌∷◌, ◌++◌, Bool, true, false, cond, ◌==◌, Option, None, Some, Result, Ok, Err}
+use Rattle.std.specs.Prelude.{◌≡◌, ℕ, zero, suc, List, [], ◌∷◌, length, Bool, true, false, cond, ◌==◌, Option, None, Some, Result, Ok, Err}
 
 -- the byte that is next
 abbrev pub first : List ℕ → Option ℕ
@@ -49,3 +49,17 @@ module _ {K A S : Type 0} (next : S → ℕ → Option S) (finish : S → Option
   abbrev pub scan : S → Reader K A
   scan state [] = answers (finish state None) []
   scan state (byte ∷ rest) = scan_from (next state byte) state byte rest (λ after. scan after rest)
+
+-- this tree where the text ends, else the reader
+abbrev pub unless_end : {K A : Type 0} → A → Reader K A → Reader K A
+unless_end x reader [] = answers (Ok x) []
+unless_end x reader (byte ∷ rest) = reader (byte ∷ rest)
+
+-- items one after another up to the end of the text, so many at most
+unfoldable pub items_within : {K A : Type 0} → Reader K A → ℕ → Reader K (List A)
+items_within item zero = done []
+items_within item (suc most) = unless_end [] (item >>= λ x. items_within item most >>= λ items. done (x ∷ items))
+
+-- items up to the end of the text: each takes a byte at least
+unfoldable pub items_at : {K A : Type 0} → Reader K A → Reader K (List A)
+items_at item bytes = items_within item (length bytes) bytes
