@@ -1,6 +1,6 @@
 -- Readers of the tokens, each a scan.
-use Rattle.std.specs.Prelude.{ℕ, zero, suc, ◌+◌, ◌-◌, ◌*◌, List, [], ◌∷◌, Bool, true, false, cond, not, ◌&&◌, ◌||◌, ◌==◌, Option, None, Some, Result, Ok, Err}
-use Rattle.text_reading.specs.Reading.{Answer, Reader, done, ◌>>=◌, scan}
+use Rattle.std.specs.Prelude.{ℕ, ◌+◌, ◌-◌, ◌*◌, List, [], ◌∷◌, Bool, true, false, cond, not, ◌&&◌, ◌||◌, ◌==◌, Option, None, Some, Result, Ok, Err}
+use Rattle.text_reading.specs.Reading.{Answer, Reader, done, ◌>>=◌, scan, items_at}
 use Rattle.text_reading.specs.Tokens.{Spot, Spot.outside, Spot.after_slash, Spot.in_comment, is_blank, is_digit, is_word_byte, is_within}
 
 -- ---- blanks
@@ -69,3 +69,7 @@ digits_at limit zero_too kind = scan (next_number limit zero_too) (number_end ki
 
 unfoldable pub number_at : {K : Type 0} → Option ℕ → Bool → K → Reader K ℕ
 number_at limit zero_too kind = token (digits_at limit zero_too kind)
+
+-- a whole text of items, with blanks before the first
+unfoldable pub text_at : {K A : Type 0} → Reader K A → Reader K (List A)
+text_at item = blanks_at >>= λ _. items_at item
