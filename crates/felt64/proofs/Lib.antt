@@ -1,2 +1,1 @@
-pub mod DecimalLaws
 pub mod FieldLaws

@@ -8,12 +8,12 @@
 ghost use Rattle.std.specs.Prelude.{◌≡◌, ◌<◌, ◌≤◌, ◌↔◌, ◌/◌, ◌%◌, ◌^◌, ℕ, IfOk, IsErrOf, Some, decimal};
 ghost use Rattle.std.specs.Option.{SomeIff};
 ghost use Rattle.felt64.specs.Field.{modulus, sum, difference, product, negative};
-ghost use Rattle.felt64.specs.Decimal.{decimal_text, IsNotDigits};
+ghost use Rattle.byte_reading.specs.Decimal.{decimal_text, IsNotDigits};
 
-mod decimal;
 #[cfg(test)]
 mod tests;
 
+use byte_reading::{DecimalFault, read_decimal};
 use std::fmt;
 use std::marker::Model;
 use thiserror::Error;
@@ -74,12 +74,12 @@ impl Felt {
         ensures not_digits { IsErrOf result NumFault.NotDigits ↔ IsNotDigits text.now }
         ensures too_large { IsErrOf result NumFault.TooLarge ↔ ((n : ℕ) × (modulus ≤ n) × (text.now ≡ decimal_text n)) }
     {
-        if !decimal::is_decimal(text) {
-            return Err(NumFault::NotDigits);
-        }
-        match decimal::value_below_modulus(text) {
-            Some(value) => Ok(Felt { value }),
-            None => Err(NumFault::TooLarge),
+        match read_decimal(text, u128::from(MODULUS - 1)) {
+            Ok(value) => Ok(Felt {
+                value: value as u64,
+            }),
+            Err(DecimalFault::NotDigits) => Err(NumFault::NotDigits),
+            Err(DecimalFault::TooLarge) => Err(NumFault::TooLarge),
         }
     }
 

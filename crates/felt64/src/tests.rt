@@ -165,57 +165,18 @@ fn halves(rt: HostRuntime) {
 
 #[test]
 fn decimal_texts(rt: HostRuntime) {
-    let table: [(&str, Result<u64, NumFault>); 24] = [
-        ("", Err(NumFault::NotDigits)),
+    let table: [(&str, Result<u64, NumFault>); 6] = [
         ("0", Ok(0)),
-        ("00", Err(NumFault::NotDigits)),
-        ("01", Err(NumFault::NotDigits)),
-        ("7", Ok(7)),
-        ("10", Ok(10)),
-        ("4294967295", Ok(4294967295)),
         ("18446744069414584320", Ok(18446744069414584320)),
         ("18446744069414584321", Err(NumFault::TooLarge)),
         ("18446744073709551616", Err(NumFault::TooLarge)),
-        ("100000000000000000000", Err(NumFault::TooLarge)),
-        (
-            "123456789012345678901234567890123456789012345678901234567890",
-            Err(NumFault::TooLarge),
-        ),
-        (
-            "0123456789012345678901234567890123456789012345678901234567890",
-            Err(NumFault::NotDigits),
-        ),
-        (
-            "10000000000000000000000000000000000000000000000000000000000000000",
-            Err(NumFault::TooLarge),
-        ),
-        (
-            "10000000000000000000000000000000000000000000000000000000000000000x",
-            Err(NumFault::NotDigits),
-        ),
-        ("1x", Err(NumFault::NotDigits)),
-        ("x1", Err(NumFault::NotDigits)),
-        ("-1", Err(NumFault::NotDigits)),
-        ("+1", Err(NumFault::NotDigits)),
-        (" 1", Err(NumFault::NotDigits)),
-        ("1 ", Err(NumFault::NotDigits)),
-        ("1_0", Err(NumFault::NotDigits)),
-        ("/", Err(NumFault::NotDigits)),
-        (":", Err(NumFault::NotDigits)),
+        ("01", Err(NumFault::NotDigits)),
+        ("", Err(NumFault::NotDigits)),
     ];
     for (text, want) in table {
         let got = Felt::read_decimal(text.as_bytes()).map(Felt::value);
         assert_eq!(rt; got, want, "the text {text}");
     }
-}
-
-#[test]
-fn long_texts(rt: HostRuntime) -> Result<(), Fail> {
-    let mut text = vec![in rt.alloc(); b'9'; 10_000_000]?;
-    assert_eq!(rt; Felt::read_decimal(&text), Err(NumFault::TooLarge));
-    text.push(b'x')?;
-    assert_eq!(rt; Felt::read_decimal(&text), Err(NumFault::NotDigits));
-    Ok(())
 }
 
 #[test]

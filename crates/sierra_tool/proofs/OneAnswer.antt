@@ -5,7 +5,7 @@ use Rattle.std.specs.Prelude.{decimal}
 use Rattle.std.specs.FinMap.{get}
 use Rattle.std.proofs.lemmas.Bool.{cases_lt}
 use Rattle.edge_io.specs.Files.{FileMap}
-use Rattle.felt64.proofs.DecimalLaws.{decimal_injective, decimal_all_digits}
+use Rattle.byte_reading.proofs.DecimalLaws.{decimal_injective, decimal_all_digits}
 use Rattle.run_file.specs.declared.run.Run.{Run}
 use Rattle.run_file.proofs.Runs.{one_run}
 use Rattle.sierra_tool.specs.Answers.{Names, name_of, Reading, absent, unread, found, Reads, LeadsTo, file_limit, IsRunFile, IsVerdict, IsAccepted, OfRun, OfRunBytes, OfInput, OfInputText, OfProgram, OfProgramText, Answers, status_of}

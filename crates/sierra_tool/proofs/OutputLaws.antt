@@ -1,8 +1,8 @@
 -- What several writes add, one after another, where each adds all or, at a fault, a front.
 use Rattle.std.proofs.Common.{ℕ, zero, suc, ◌≡◌, ◌+◌, ◌≤◌, List, [], ◌∷◌, ◌++◌, length, take, Option, Some, None, Result, Ok, Err, refl, sym, ap, subst, ◌∙◌, inl, inr, append_assoc, append-nil, arith}
 use Rattle.std.specs.Prelude.{OnErr, codes, decimal}
-use Rattle.felt64.specs.Decimal.{decimal_text}
-use Rattle.felt64.proofs.DecimalLaws.{decimal_is_decimal_text}
+use Rattle.byte_reading.specs.Decimal.{decimal_text}
+use Rattle.byte_reading.proofs.DecimalLaws.{decimal_is_decimal_text}
 use Rattle.std.specs.List.{concat}
 use Rattle.std.proofs.lemmas.Bool.{cases_lt}
 use Rattle.std.proofs.lemmas.List.{take-append-le}

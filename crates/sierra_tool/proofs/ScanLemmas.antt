@@ -7,7 +7,7 @@ use Rattle.std.proofs.lemmas.List.Elements.{recursion_from_All}
 use Rattle.std.specs.List.{AllByRecursion}
 use Rattle.std.specs.Str.Parse.{AllDigits}
 use Rattle.std.proofs.lemmas.Str.Parse.{digit_from_value}
-use Rattle.felt64.proofs.DecimalLaws.{is_decimal-decimal_text, decimal_is_decimal_text}
+use Rattle.byte_reading.proofs.DecimalLaws.{is_decimal-decimal_text, decimal_is_decimal_text}
 use Rattle.felt64.specs.Field.{modulus}
 use Rattle.sierra_tool.specs.Scan.{IsAllDigits, StartsWithNoDigit}
 

@@ -1,7 +1,7 @@
 use Rattle.std.proofs.Common.{arith}
 use Rattle.std.proofs.lemmas.Int.Digits.{digits_more}
 use Rattle.std.proofs.lemmas.Str.{digit_value_digit}
-use Rattle.felt64.proofs.decimal.is_decimal.Goals as goal
+use Rattle.byte_reading.proofs.decimal.is_decimal.Goals as goal
 
 pub loop-byte-preserved : goal.loop-byte-preserved
 loop-byte-preserved c =

@@ -1,5 +1,5 @@
--- The decimal texts of the natural numbers, of any length.
-use Rattle.std.specs.Prelude.{ℕ, ◌+◌, ◌≡◌, ◌<◌, ◌⊎◌, List, [], ◌∷◌, length, slice_index, map, Any, ◌==◌, if◌then◌else◌}
+-- The decimal texts of the natural numbers, of any length, and the number at the head of a text.
+use Rattle.std.specs.Prelude.{ℕ, ◌+◌, ◌≡◌, ◌<◌, ◌⊎◌, List, [], ◌∷◌, ◌++◌, length, slice_index, map, Any, ◌==◌, if◌then◌else◌}
 use Rattle.std.specs.Char.{IsAsciiDigit}
 use Rattle.std.specs.Int.Digits.{digits_of}
 use Rattle.std.specs.Str.Parse.{IsNumeral}
@@ -23,3 +23,13 @@ IsNotDigits text = (text ≡ []) ⊎ (HasNonDigit text ⊎ HasLeadingZero text)
 pub record IsDecimal (text : List ℕ) : Type 0 where
   pub digits : IsNumeral 10 text
   pub no_leading_zero : slice_index text 0 ≡ 48 → length text ≡ 1
+
+-- the text is empty, or its first byte is no digit
+abbrev pub StartsWithNoDigit : List ℕ → Type 0
+StartsWithNoDigit [] = Unit {0}
+StartsWithNoDigit (byte ∷ rest) = IsAsciiDigit byte → ⊥
+
+-- the text is a number's, as long as it may be, and then the rest: behind 0 no digit continues a number
+pub record StartsWithNumber (text : List ℕ) (n : ℕ) (rest : List ℕ) : Type 0 where
+  pub text_is : text ≡ decimal_text n ++ rest
+  pub longest : (n ≡ 0) ⊎ StartsWithNoDigit rest

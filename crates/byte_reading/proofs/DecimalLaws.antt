@@ -1,20 +1,20 @@
 -- The decimal texts: each number has one, and no two numbers have the same.
-use Rattle.std.proofs.Common.{ℕ, zero, suc, ◌≡◌, ◌≢◌, ◌<◌, ◌≤◌, ◌+◌, ◌*◌, ◌-◌, ◌/◌, ◌%◌, ◌^◌, List, [], ◌∷◌, ◌++◌, length, get_or, take, map, refl, sym, ◌∙◌, ap, inl, inr, arith, add-one, lit≤}
+use Rattle.std.proofs.Common.{ℕ, zero, suc, ◌≡◌, ◌≢◌, ◌⊎◌, ◌<◌, ◌≤◌, ◌+◌, ◌*◌, ◌-◌, ◌/◌, ◌%◌, ◌^◌, List, [], ◌∷◌, ◌++◌, length, get_or, take, map, refl, sym, ◌∙◌, ap, subst, inl, inr, arith, add-one, lit≤}
 use Rattle.std.specs.Prelude.{decimal}
 use Rattle.std.specs.Char.{digit_value, IsAsciiDigit}
 use Rattle.std.specs.Int.Digits.{digits_of, number_from_digits, AllBelowBase}
-use Rattle.std.specs.List.{All}
+use Rattle.std.specs.List.{All, AllByRecursion}
 use Rattle.std.specs.Str.Parse.{AllDigits, digits_value}
 use Rattle.std.proofs.lemmas.Bool.{cases_eq, ne_eqb}
 use Rattle.std.proofs.lemmas.Int.Digits.{digits_of_step, first_digits_of, all_below_base_digits_of, number_digits_of, number_more, digits_value_is, digits_value_more, all_below_base_from_digits}
-use Rattle.std.proofs.lemmas.List.{take_more, map-append}
-use Rattle.std.proofs.lemmas.List.Elements.{All-from_get_or}
+use Rattle.std.proofs.lemmas.List.{take_more, map-append, nil_from_length}
+use Rattle.std.proofs.lemmas.List.Elements.{All-from_get_or, recursion_from_All}
 use Rattle.std.proofs.Math.Seq.{take-length}
 use Rattle.std.proofs.lemmas.Fmt.{decimal_by_steps_wide}
 use Rattle.std.proofs.lemmas.Str.{digit_value_digit}
 use Rattle.std.proofs.lemmas.Str.Parse.{digit_from_value, digit_at}
 use Rattle.std.proofs.lemmas.Grind.{get_or_default_zero}
-use Rattle.felt64.specs.Decimal.{decimal_text, IsDecimal, IsNotDigits}
+use Rattle.byte_reading.specs.Decimal.{decimal_text, IsDecimal, IsNotDigits, StartsWithNoDigit, StartsWithNumber}
 
 -- a digit's byte has the digit's value
 digit_value-glyph : (digit : ℕ) → digit < 10 → digit_value (48 + digit) ≡ digit
@@ -175,9 +175,13 @@ decimal_is_decimal_text n below = decimal_by_steps_wide (λ m text. text ≡ dec
     (λ m front long same. rw same (sym (decimal_text_step m long)))
     n below
 
--- the text of a number of the field is no other text
-pub refused : (text : List ℕ) (n : ℕ) → IsNotDigits text → text ≡ decimal_text n → ⊥
-refused text n isnt same = not_both (decimal_text n) (is_decimal-decimal_text n) (rw same at isnt)
+-- a text that is no number is no number's
+pub not_a_number : (text : List ℕ) (n : ℕ) → IsNotDigits text → text ≡ decimal_text n → ⊥
+not_a_number text n isnt same = not_both (decimal_text n) (is_decimal-decimal_text n) (rw same at isnt)
+
+-- the number of a text is its value
+pub value_is : (text : List ℕ) (n : ℕ) → text ≡ decimal_text n → digits_value 10 text ≡ n
+value_is text n same = ap (digits_value 10) same ∙ digits_value-decimal_text n
 
 -- a decimal text of at most 64 digits is std's `decimal` of its value
 pub decimal-digits_value : (text : List ℕ) → IsDecimal text → digits_value 10 text < 10 ^ 64 → text ≡ decimal (digits_value 10 text)
@@ -218,3 +222,107 @@ decimal_digit_at n i below within = digit_at (decimal n) i (is_decimal-decimal n
 -- the same, of all its bytes
 pub decimal_all_digits : (n : ℕ) → n < 10 ^ 64 → All IsAsciiDigit (decimal n)
 decimal_all_digits n below = All-from_get_or IsAsciiDigit (decimal n) 0 (λ i within. decimal_digit_at n i below within)
+
+-- ---- the number at the head of a text
+
+-- digits by their values are digits
+digits_by_value : (digits : List ℕ) → AllDigits 10 digits → AllByRecursion IsAsciiDigit digits
+digits_by_value [] all = all
+digits_by_value (d ∷ rest) all = (digit_from_value d all.0, digits_by_value rest all.1)
+
+values_of_digits : (digits : List ℕ) → AllByRecursion IsAsciiDigit digits → AllDigits 10 digits
+values_of_digits [] all = all
+values_of_digits (d ∷ rest) all = (omega (arith, digit_value_digit d all.0), values_of_digits rest all.1)
+
+-- a number's text is digits
+text_digits : (n : ℕ) → AllByRecursion IsAsciiDigit (decimal_text n)
+text_digits n = digits_by_value _ (is_decimal-decimal_text n).digits.1
+
+-- digits are split in one way from what starts with none
+one_split : (ds es rest tail : List ℕ) → AllByRecursion IsAsciiDigit ds → AllByRecursion IsAsciiDigit es → StartsWithNoDigit rest → StartsWithNoDigit tail → ds ++ rest ≡ es ++ tail → (ds ≡ es) × (rest ≡ tail)
+one_split [] [] rest tail d e r t same = (refl, same)
+one_split [] (y ∷ es) (x ∷ rest) tail d e r t same = let first : x ≡ y = cc in absurd (r (subst IsAsciiDigit (sym first) e.0))
+one_split [] (y ∷ es) [] tail d e r t same = cc
+one_split (x ∷ ds) [] rest (y ∷ tail) d e r t same = let first : x ≡ y = cc in absurd (t (subst IsAsciiDigit first d.0))
+one_split (x ∷ ds) [] rest [] d e r t same = cc
+one_split (x ∷ ds) (y ∷ es) rest tail d e r t same =
+    let behind : ds ++ rest ≡ es ++ tail = cc in
+    let first : x ≡ y = cc in
+    let others = one_split ds es rest tail d.1 e.1 r t behind in
+    let others_0 = others.0 in
+    (cc, others.1)
+
+-- only the text of 0 begins with a zero
+zero_first : (n : ℕ) (rest : List ℕ) → decimal_text n ≡ 48 ∷ rest → n ≡ 0
+zero_first n rest same =
+    let one : length (decimal_text n) ≡ 1 = (is_decimal-decimal_text n).no_leading_zero (rw same refl) in
+    let short : rest ≡ [] = nil_from_length rest (omega (arith, ap length same)) in
+    decimal_text_injective n 0 (same ∙ rw (short, decimal_text-zero) refl)
+
+-- what begins as the text of 0 does
+zero_leads : (n : ℕ) (tail rest : List ℕ) → 48 ∷ rest ≡ decimal_text n ++ tail → (n ≡ 0) × (rest ≡ tail)
+zero_leads n tail rest same = first (decimal_text n) (is_decimal-decimal_text n).digits.0 refl same
+  where
+    first : (text : List ℕ) → 0 < length text → decimal_text n ≡ text → 48 ∷ rest ≡ text ++ tail → (n ≡ 0) × (rest ≡ tail)
+    first [] some is both = absurd (omega arith)
+    first (x ∷ others) some is both =
+        let leads : 48 ≡ x = cc in
+        let none = zero_first n others (is ∙ rw (← leads) refl) in
+        let text : 48 ∷ [] ≡ x ∷ others = sym decimal_text-zero ∙ (ap decimal_text (sym none) ∙ is) in
+        let short : [] ≡ others = cc in
+        (none, cc)
+
+-- a text starts with one number at most
+pub one_leading_number : (text : List ℕ) (m : ℕ) (behind_m : List ℕ) (n : ℕ) (behind_n : List ℕ) → StartsWithNumber text m behind_m → StartsWithNumber text n behind_n → (m ≡ n) × (behind_m ≡ behind_n)
+one_leading_number text m a n b first second = elim first.longest [
+  | inl none ↦
+      let found = zero_leads n b a (sym (first.text_is ∙ rw (none, decimal_text-zero) refl) ∙ second.text_is) in
+      (none ∙ sym found.0, found.1)
+  | inr other ↦ elim second.longest [
+    | inl none ↦
+        let found = zero_leads m a b (sym (second.text_is ∙ rw (none, decimal_text-zero) refl) ∙ first.text_is) in
+        (found.0 ∙ sym none, sym found.1)
+    | inr another ↦
+        let parts = one_split (decimal_text m) (decimal_text n) a b (text_digits m) (text_digits n) other another (sym first.text_is ∙ second.text_is) in
+        (decimal_text_injective m n parts.0, parts.1)
+  ]
+]
+
+-- the digits of a number, and what doesn't continue it
+pub starts_with_value : (text digits rest : List ℕ) → text ≡ digits ++ rest → IsDecimal digits → (digits ≡ 48 ∷ []) ⊎ StartsWithNoDigit rest → StartsWithNumber text (digits_value 10 digits) rest
+starts_with_value text digits rest is fits longest = record {
+  text_is = is ∙ ap (λ (ds : List ℕ). ds ++ rest) (sym (decimal_text-digits_value digits fits));
+  longest = elim longest [ inl none ↦ inl (ap (digits_value 10) none) | inr other ↦ inr other ];
+}
+
+-- the same of digits that are there
+pub starts_with_digits : (text digits rest : List ℕ) → text ≡ digits ++ rest → (digits ≡ []) ⊎ IsDecimal digits → (digits ≡ 48 ∷ []) ⊎ StartsWithNoDigit rest → digits ≢ [] → StartsWithNumber text (digits_value 10 digits) rest
+starts_with_digits text digits rest is (inl none) longest some = absurd (some none)
+starts_with_digits text digits rest is (inr fits) longest some = starts_with_value text digits rest is fits longest
+
+-- where no digit was found, none is there
+pub no_digit_starts : (text digits rest : List ℕ) → text ≡ digits ++ rest → (digits ≡ 48 ∷ []) ⊎ StartsWithNoDigit rest → digits ≡ [] → StartsWithNoDigit text
+no_digit_starts text digits rest is (inl leading) none = absurd cc
+no_digit_starts text digits rest is (inr other) none =
+    let same : text ≡ rest = rw none at is in
+    rw same other
+
+-- no number starts where there is no digit
+pub no_number_starts : (text : List ℕ) (n : ℕ) (rest : List ℕ) → StartsWithNoDigit text → StartsWithNumber text n rest → ⊥
+no_number_starts text n rest none starts =
+    first (decimal_text n) (is_decimal-decimal_text n).digits.0 (text_digits n) (rw starts.text_is at none)
+  where
+    first : (digits : List ℕ) → 0 < length digits → AllByRecursion IsAsciiDigit digits → StartsWithNoDigit (digits ++ rest) → ⊥
+    first [] some all isnt = omega arith
+    first (d ∷ ds) some all isnt = isnt all.0
+
+-- digits of which the first is no zero are a number's
+pub decimal_or_none : (text digits rest : List ℕ) → text ≡ digits ++ rest → All IsAsciiDigit digits → (0 < length text → get_or text 0 0 ≢ 48) → (digits ≡ []) ⊎ IsDecimal digits
+decimal_or_none text [] rest is all leads = inl refl
+decimal_or_none text (d ∷ ds) rest is all leads = inr (record {
+  digits = (omega arith, values_of_digits (d ∷ ds) (recursion_from_All IsAsciiDigit (d ∷ ds) all));
+  no_leading_zero = λ leading.
+      let some : 0 < length text = rw is (omega arith) in
+      let first : get_or text 0 0 ≡ d = rw is refl in
+      absurd (leads some (first ∙ leading));
+})

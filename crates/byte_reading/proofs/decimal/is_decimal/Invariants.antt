@@ -1,6 +1,6 @@
 use Rattle.std.proofs.Common.{take}
 use Rattle.std.specs.Str.Parse.{AllDigits}
-use Rattle.felt64.proofs.decimal.is_decimal.Given as goal
+use Rattle.byte_reading.proofs.decimal.is_decimal.Given as goal
 
 abbrev pub invariant-loop-byte : goal.invariant-loop-byte
 invariant-loop-byte l = AllDigits 10 (take l.byte-index l.text)
