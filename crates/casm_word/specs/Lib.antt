@@ -1,0 +1,8 @@
+pub mod Decoding
+pub mod Encoding
+pub mod Expressions
+pub mod Immediates
+pub mod Offset
+pub mod Parts
+pub mod Rules
+pub mod Word
