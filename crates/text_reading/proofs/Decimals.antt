@@ -4,7 +4,7 @@ use Rattle.std.specs.Int.Digits.{digits_of}
 use Rattle.std.proofs.lemmas.Bool.{cases_eq, ne_eqb}
 use Rattle.std.proofs.lemmas.Int.Digits.{digits_of_step}
 use Rattle.std.proofs.lemmas.List.{map-append}
-use Rattle.felt64.specs.Decimal.{decimal_text}
+use Rattle.byte_reading.specs.Decimal.{decimal_text}
 
 zero_text : decimal_text 0 ≡ 48 ∷ []
 unfolding decimal_text

@@ -2,7 +2,7 @@
 use Rattle.std.proofs.Common.{◌≡◌, ◌≢◌, ℕ, zero, suc, ◌+◌, ◌*◌, ◌-◌, ◌/◌, ◌%◌, ◌<◌, ◌≤◌, List, [], ◌∷◌, ◌++◌, length, Bool, true, false, cond, not, ◌||◌, ◌&&◌, eqb, leb, ltb, Option, None, Some, Result, Ok, Err, refl, sym, ◌∙◌, ap, subst, append_assoc, arith, inl, inr, ◌⊎◌}
 use Rattle.std.proofs.lemmas.Bool.{or_parts, or_left, and_parts, and_from, and_left, and_right, eqb-true, eqb-false, eq-eqb, ne_eqb, leb-true, le-leb, lt-ltb, ltb-true, cases_eq, cases_lt, cases_Bool}
 use Rattle.std.proofs.lemmas.List.{append-nil}
-use Rattle.felt64.specs.Decimal.{decimal_text}
+use Rattle.byte_reading.specs.Decimal.{decimal_text}
 use Rattle.text_reading.specs.Tokens.{is_digit, is_within, NoneNext, Digits, Blanks, Number}
 use Rattle.text_reading.specs.Reading.{first, Answer, Answer.answers, Reader, done, ◌>>=◌, scan, scan_from, go_on}
 use Rattle.text_reading.specs.TokenReading.{token, longer, next_number, number_end, digits_at, number_at}

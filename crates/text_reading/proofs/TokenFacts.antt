@@ -3,7 +3,7 @@ use Rattle.std.proofs.Common.{◌≡◌, ◌≢◌, ℕ, zero, suc, ◌+◌, ◌
 use Rattle.std.specs.Option.{MatchOption}
 use Rattle.std.proofs.lemmas.Bool.{or_parts, and_parts, and_from, and_left, and_right, eqb-true, eqb-false, eq-eqb, ne_eqb, leb-true, le-leb, cases_eq, cases_Bool}
 use Rattle.std.proofs.lemmas.List.{append-nil}
-use Rattle.felt64.specs.Decimal.{decimal_text}
+use Rattle.byte_reading.specs.Decimal.{decimal_text}
 use Rattle.text_reading.specs.Tokens.{Spot, Spot.outside, Spot.after_slash, Spot.in_comment, is_digit, is_word_byte, is_within, NoneNext, ◌then◌, Blanks, Literal, Mark, WholeWord, Word, Digits, Number}
 use Rattle.text_reading.specs.Reading.{first, Answer, Answer.answers, Reader, done, ◌>>=◌, scan, scan_from, go_on}
 use Rattle.text_reading.specs.TokenReading.{token, next_spot, blanks_end, blanks_at, next_literal, literal_end, literal_at, mark_at, word_end, word_at, longer, next_number, number_end, digits_at, number_at}

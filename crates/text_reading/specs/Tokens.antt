@@ -2,7 +2,7 @@
 -- by the text and by what is left of it.
 use Rattle.std.specs.Prelude.{◌≡◌, ℕ, List, [], ◌∷◌, ◌++◌, Bool, true, false, ◌&&◌, ◌||◌, ◌==◌, nat_le, nat_lt, Option, None, Some}
 use Rattle.std.specs.Bool.{MatchBool}
-use Rattle.felt64.specs.Decimal.{decimal_text}
+use Rattle.byte_reading.specs.Decimal.{decimal_text}
 
 abbrev pub Form : Type 1
 Form = List ℕ → List ℕ → Type 0
