@@ -1,8 +1,10 @@
 -- Blanks: their reader reads them all, and the reader of a token and its blanks.
+use Rattle.text_reading.specs.declared.tokens.Spot.{Spot}
+use Rattle.text_reading.specs.declared.tokens.Spot.TheVariants as spots
 use Rattle.std.proofs.Common.{◌≡◌, ℕ, List, [], ◌∷◌, ◌++◌, Bool, true, false, cond, ◌||◌, eqb, Option, None, Some, Result, Ok, Err, refl, sym, ◌∙◌, ap, subst}
 use Rattle.std.specs.Bool.{MatchBool}
 use Rattle.std.proofs.lemmas.Bool.{or_parts}
-use Rattle.text_reading.specs.Tokens.{Spot, Spot.outside, Spot.after_slash, Spot.in_comment, is_blank, NoneNext, BlanksFrom, Blanks}
+use Rattle.text_reading.specs.Tokens.{is_blank, NoneNext, BlanksFrom, Blanks}
 use Rattle.text_reading.specs.Reading.{Answer, Answer.answers, Reader, done, ◌>>=◌, scan, scan_from}
 use Rattle.text_reading.specs.TokenReading.{next_spot, blanks_end, blanks_at, token}
 use Rattle.text_reading.proofs.Readers.{Ends, Starts, Opens, IsReader, scan_is, bind_is, bind_starts, done_is, done_starts, then_next}
@@ -17,20 +19,20 @@ Fresh = NoneNext is_gap
 abbrev blanks_from : {K : Type 0} → Spot → Reader K (Unit {0})
 blanks_from = scan next_spot blanks_end
 
-no_more : {K : Type 0} (rest : List ℕ) → Fresh rest → blanks_from {K = K} outside rest ≡ answers (Ok tt) rest
+no_more : {K : Type 0} (rest : List ℕ) → Fresh rest → blanks_from {K = K} spots.Outside rest ≡ answers (Ok tt) rest
 no_more [] fresh = refl
 no_more (byte ∷ rest) fresh =
     let both = or_parts (is_blank byte) (eqb byte 47) fresh in
     rw (both.0, both.1) refl
 
 blanks_end_at : {K : Type 0} (spot : Spot) → Ends Fresh (blanks_from {K = K} spot) []
-blanks_end_at outside = ([], tt, no_more)
-blanks_end_at after_slash = (47 ∷ 10 ∷ [], tt, no_more)
-blanks_end_at in_comment = (10 ∷ [], tt, no_more)
+blanks_end_at spots.Outside = ([], tt, no_more)
+blanks_end_at spots.AfterSlash = (47 ∷ 10 ∷ [], tt, no_more)
+blanks_end_at spots.InComment = (10 ∷ [], tt, no_more)
 
 pub blanks_is : {K : Type 0} → IsReader Fresh (blanks_at {K = K})
 unfolding blanks_at
-blanks_is = scan_is next_spot blanks_end blanks_end_at outside
+blanks_is = scan_is next_spot blanks_end blanks_end_at spots.Outside
 
 -- no blanks
 pub blanks_none : {K : Type 0} (rest : List ℕ) → Fresh rest → blanks_at {K = K} rest ≡ answers (Ok tt) rest
@@ -81,59 +83,59 @@ module _ (K : Type 0) (byte : ℕ) (text rest : List ℕ) where
   abbrev step : Option Spot → Spot → Answer K (Unit {0})
   step after spot = scan_from {K = K} next_spot blanks_end after spot byte text (λ a. blanks_from a text)
 
-  sound_outside : (blank slash : Bool) → ((spot : Spot) → Sound spot) → step (cond blank (Some outside) (cond slash (Some after_slash) None)) outside ≡ answers (Ok tt) rest
-      → MatchBool blank (BlanksFrom outside text rest) (MatchBool slash (BlanksFrom after_slash text rest) (rest ≡ byte ∷ text))
-  sound_outside true slash more e = more outside e
-  sound_outside false true more e = more after_slash e
+  sound_outside : (blank slash : Bool) → ((spot : Spot) → Sound spot) → step (cond blank (Some spots.Outside) (cond slash (Some spots.AfterSlash) None)) spots.Outside ≡ answers (Ok tt) rest
+      → MatchBool blank (BlanksFrom spots.Outside text rest) (MatchBool slash (BlanksFrom spots.AfterSlash text rest) (rest ≡ byte ∷ text))
+  sound_outside true slash more e = more spots.Outside e
+  sound_outside false true more e = more spots.AfterSlash e
   sound_outside false false more e = cc
 
-  sound_slash : (slash : Bool) → ((spot : Spot) → Sound spot) → step (cond slash (Some in_comment) None) after_slash ≡ answers (Ok tt) rest
-      → MatchBool slash (BlanksFrom in_comment text rest) ⊥
-  sound_slash true more e = more in_comment e
+  sound_slash : (slash : Bool) → ((spot : Spot) → Sound spot) → step (cond slash (Some spots.InComment) None) spots.AfterSlash ≡ answers (Ok tt) rest
+      → MatchBool slash (BlanksFrom spots.InComment text rest) ⊥
+  sound_slash true more e = more spots.InComment e
   sound_slash false more e = cc
 
-  sound_comment : (line : Bool) → ((spot : Spot) → Sound spot) → step (cond line (Some outside) (Some in_comment)) in_comment ≡ answers (Ok tt) rest
-      → MatchBool line (BlanksFrom outside text rest) (BlanksFrom in_comment text rest)
-  sound_comment true more e = more outside e
-  sound_comment false more e = more in_comment e
+  sound_comment : (line : Bool) → ((spot : Spot) → Sound spot) → step (cond line (Some spots.Outside) (Some spots.InComment)) spots.InComment ≡ answers (Ok tt) rest
+      → MatchBool line (BlanksFrom spots.Outside text rest) (BlanksFrom spots.InComment text rest)
+  sound_comment true more e = more spots.Outside e
+  sound_comment false more e = more spots.InComment e
 
   complete_outside : (blank slash : Bool) → ((spot : Spot) → Complete spot)
-      → MatchBool blank (BlanksFrom outside text rest) (MatchBool slash (BlanksFrom after_slash text rest) (rest ≡ byte ∷ text))
-      → step (cond blank (Some outside) (cond slash (Some after_slash) None)) outside ≡ answers (Ok tt) rest
-  complete_outside true slash more h = more outside h
-  complete_outside false true more h = more after_slash h
+      → MatchBool blank (BlanksFrom spots.Outside text rest) (MatchBool slash (BlanksFrom spots.AfterSlash text rest) (rest ≡ byte ∷ text))
+      → step (cond blank (Some spots.Outside) (cond slash (Some spots.AfterSlash) None)) spots.Outside ≡ answers (Ok tt) rest
+  complete_outside true slash more h = more spots.Outside h
+  complete_outside false true more h = more spots.AfterSlash h
   complete_outside false false more h = ap (answers (Ok tt)) (sym h)
 
-  complete_slash : (slash : Bool) → ((spot : Spot) → Complete spot) → MatchBool slash (BlanksFrom in_comment text rest) ⊥
-      → step (cond slash (Some in_comment) None) after_slash ≡ answers (Ok tt) rest
-  complete_slash true more h = more in_comment h
+  complete_slash : (slash : Bool) → ((spot : Spot) → Complete spot) → MatchBool slash (BlanksFrom spots.InComment text rest) ⊥
+      → step (cond slash (Some spots.InComment) None) spots.AfterSlash ≡ answers (Ok tt) rest
+  complete_slash true more h = more spots.InComment h
   complete_slash false more h = absurd h
 
-  complete_comment : (line : Bool) → ((spot : Spot) → Complete spot) → MatchBool line (BlanksFrom outside text rest) (BlanksFrom in_comment text rest)
-      → step (cond line (Some outside) (Some in_comment)) in_comment ≡ answers (Ok tt) rest
-  complete_comment true more h = more outside h
-  complete_comment false more h = more in_comment h
+  complete_comment : (line : Bool) → ((spot : Spot) → Complete spot) → MatchBool line (BlanksFrom spots.Outside text rest) (BlanksFrom spots.InComment text rest)
+      → step (cond line (Some spots.Outside) (Some spots.InComment)) spots.InComment ≡ answers (Ok tt) rest
+  complete_comment true more h = more spots.Outside h
+  complete_comment false more h = more spots.InComment h
 
 sound_from : {K : Type 0} (text rest : List ℕ) (spot : Spot) → blanks_from {K = K} spot text ≡ answers (Ok tt) rest → BlanksFrom spot text rest
-sound_from [] rest outside e = cc
-sound_from [] rest after_slash e = absurd cc
-sound_from [] rest in_comment e = cc
-sound_from {K} (byte ∷ text) rest outside e = sound_outside K byte text rest (is_blank byte) (eqb byte 47) (sound_from text rest) e
-sound_from {K} (byte ∷ text) rest after_slash e = sound_slash K byte text rest (eqb byte 47) (sound_from text rest) e
-sound_from {K} (byte ∷ text) rest in_comment e = sound_comment K byte text rest (eqb byte 10) (sound_from text rest) e
+sound_from [] rest spots.Outside e = cc
+sound_from [] rest spots.AfterSlash e = absurd cc
+sound_from [] rest spots.InComment e = cc
+sound_from {K} (byte ∷ text) rest spots.Outside e = sound_outside K byte text rest (is_blank byte) (eqb byte 47) (sound_from text rest) e
+sound_from {K} (byte ∷ text) rest spots.AfterSlash e = sound_slash K byte text rest (eqb byte 47) (sound_from text rest) e
+sound_from {K} (byte ∷ text) rest spots.InComment e = sound_comment K byte text rest (eqb byte 10) (sound_from text rest) e
 
 complete_from : {K : Type 0} (text rest : List ℕ) (spot : Spot) → BlanksFrom spot text rest → blanks_from {K = K} spot text ≡ answers (Ok tt) rest
-complete_from [] rest outside h = ap (answers (Ok tt)) (sym h)
-complete_from [] rest after_slash h = absurd h
-complete_from [] rest in_comment h = ap (answers (Ok tt)) (sym h)
-complete_from {K} (byte ∷ text) rest outside h = complete_outside K byte text rest (is_blank byte) (eqb byte 47) (complete_from text rest) h
-complete_from {K} (byte ∷ text) rest after_slash h = complete_slash K byte text rest (eqb byte 47) (complete_from text rest) h
-complete_from {K} (byte ∷ text) rest in_comment h = complete_comment K byte text rest (eqb byte 10) (complete_from text rest) h
+complete_from [] rest spots.Outside h = ap (answers (Ok tt)) (sym h)
+complete_from [] rest spots.AfterSlash h = absurd h
+complete_from [] rest spots.InComment h = ap (answers (Ok tt)) (sym h)
+complete_from {K} (byte ∷ text) rest spots.Outside h = complete_outside K byte text rest (is_blank byte) (eqb byte 47) (complete_from text rest) h
+complete_from {K} (byte ∷ text) rest spots.AfterSlash h = complete_slash K byte text rest (eqb byte 47) (complete_from text rest) h
+complete_from {K} (byte ∷ text) rest spots.InComment h = complete_comment K byte text rest (eqb byte 10) (complete_from text rest) h
 
 pub blanks_sound : {K : Type 0} (text rest : List ℕ) → blanks_at {K = K} text ≡ answers (Ok tt) rest → Blanks text rest
 unfolding blanks_at
-blanks_sound text rest e = sound_from text rest outside e
+blanks_sound text rest e = sound_from text rest spots.Outside e
 
 pub blanks_complete : {K : Type 0} (text rest : List ℕ) → Blanks text rest → blanks_at {K = K} text ≡ answers (Ok tt) rest
 unfolding blanks_at
-blanks_complete text rest h = complete_from text rest outside h
+blanks_complete text rest h = complete_from text rest spots.Outside h

@@ -78,6 +78,16 @@ pub then_stops : {K A B : Type 0} (reader : Reader K A) (next : A → Reader K B
     → reader text ≡ answers (Err why) rest → (reader >>= next) text ≡ answers (Err why) rest
 then_stops reader next text rest why read = ap (λ a. go_on a next) read
 
+-- what two readers read
+pub bind_read : {K A B : Type 0} (reader : Reader K A) (next : A → Reader K B) (text rest : List ℕ) (y : B) → (reader >>= next) text ≡ answers (Ok y) rest
+    → (x : A) × (between : List ℕ) × (reader text ≡ answers (Ok x) between) × (next x between ≡ answers (Ok y) rest)
+bind_read {K} {A} {B} reader next text rest y e = go (reader text) refl e
+  where
+    go : (answer : Answer K A) → reader text ≡ answer → go_on answer next ≡ answers (Ok y) rest
+        → (x : A) × (between : List ℕ) × (reader text ≡ answers (Ok x) between) × (next x between ≡ answers (Ok y) rest)
+    go (answers (Err why) left) was e = absurd cc
+    go (answers (Ok x) left) was e = (x, left, was, e)
+
 module _ {K A B : Type 0} {behind follow : List ℕ → Type 0} (reader : Reader K A) (next : A → Reader K B)
     (is : IsReader behind reader) (nexts : (x : A) → IsReader follow (next x)) (starts : (x : A) → Starts behind follow (next x)) where
 

@@ -1,16 +1,21 @@
 -- Marks, words and numbers: the four properties of their readers, and that they read what their forms say.
+use Rattle.text_reading.specs.declared.tokens.Spot.{Spot}
+use Rattle.text_reading.specs.declared.tokens.Spot.TheVariants as spots
 use Rattle.std.proofs.Common.{◌≡◌, ◌≢◌, ℕ, zero, suc, ◌+◌, ◌*◌, ◌-◌, ◌<◌, ◌≤◌, List, [], ◌∷◌, ◌++◌, length, Bool, true, false, cond, not, ◌||◌, ◌&&◌, eqb, leb, ltb, Option, None, Some, Result, Ok, Err, refl, sym, ◌∙◌, ap, subst, append_assoc, arith, inl, inr, ◌⊎◌}
 use Rattle.std.specs.Option.{MatchOption}
 use Rattle.std.proofs.lemmas.Bool.{or_parts, and_parts, and_from, and_left, and_right, eqb-true, eqb-false, eq-eqb, ne_eqb, leb-true, le-leb, cases_eq, cases_Bool}
 use Rattle.std.proofs.lemmas.List.{append-nil}
 use Rattle.byte_reading.specs.Decimal.{decimal_text}
-use Rattle.text_reading.specs.Tokens.{Spot, Spot.outside, Spot.after_slash, Spot.in_comment, is_digit, is_word_byte, is_within, NoneNext, ◌then◌, Blanks, Literal, Mark, WholeWord, Word, Digits, Number}
+use Rattle.text_reading.specs.Tokens.{is_digit, is_word_byte, is_within, NoneNext, ◌then◌, Blanks, Literal, Mark, WholeWord, Word, Digits, Number}
 use Rattle.text_reading.specs.Reading.{first, Answer, Answer.answers, Reader, done, ◌>>=◌, scan, scan_from, go_on}
-use Rattle.text_reading.specs.TokenReading.{token, next_spot, blanks_end, blanks_at, next_literal, literal_end, literal_at, mark_at, word_end, word_at, longer, next_number, number_end, digits_at, number_at}
-use Rattle.text_reading.proofs.Readers.{Ends, Starts, Opens, IsReader, scan_is, bind_is, done_is, then_next}
+use Rattle.text_reading.specs.TokenReading.{token, next_spot, blanks_end, blanks_at, next_literal, literal_end, literal_at, mark_at, word_end, word_end_at, whole_word_at, word_at, longer, next_number, number_end, digits_at, number_at}
+use Rattle.text_reading.proofs.Readers.{Ends, Starts, Opens, IsReader, scan_is, bind_is, bind_read, done_is, then_next}
 use Rattle.text_reading.proofs.Limits.{Passes, Lifts, lifts_itself, lifts_done, bind_lifts, scan_never}
 use Rattle.text_reading.proofs.Decimals.{digit_text, longer_text}
 use Rattle.text_reading.proofs.BlankFacts.{Fresh, blanks_is, blanks_none, blanks_line, blanks_sound, blanks_complete, then_blanks_is, token_is, token_starts, token_reads}
+
+abbrev unit_answer : (K : Type 0) → Result (Unit {0}) (Option K) → List ℕ → Answer K (Unit {0})
+unit_answer K out rest = answers out rest
 
 abbrev pub Anything : List ℕ → Type 0
 Anything rest = Unit {0}
@@ -45,12 +50,12 @@ token_complete {K} reader text between rest x read blanks = token_reads reader t
 
 pub blanks_lift : {K : Type 0} (kind : K) → Lifts kind (blanks_at {K = K}) blanks_at
 unfolding blanks_at
-blanks_lift kind = lifts_itself kind blanks_at (λ text rest out e p. scan_never kind next_spot blanks_end never text outside rest out e p)
+blanks_lift kind = lifts_itself kind blanks_at (λ text rest out e p. scan_never kind next_spot blanks_end never text spots.Outside rest out e p)
   where
     never : (spot : Spot) (byte : Option ℕ) → Passes kind (blanks_end spot byte) → ⊥
-    never outside byte p = p
-    never after_slash byte p = p
-    never in_comment byte p = p
+    never spots.Outside byte p = p
+    never spots.AfterSlash byte p = p
+    never spots.InComment byte p = p
 
 pub token_lifts : {K A : Type 0} {behind : List ℕ → Type 0} (kind : K) (reader bare : Reader K A) → IsReader behind reader → IsReader behind bare
     → ((rest : List ℕ) → behind (10 ∷ rest)) → Lifts kind reader bare → Lifts kind (token reader) (token bare)
@@ -61,10 +66,10 @@ token_lifts {K} {A} {behind} kind reader bare is bare_is line lifts =
 
 -- ---- marks
 
-abbrev literal_from : {K : Type 0} → List ℕ → Reader K (Unit {0})
+abbrev pub literal_from : {K : Type 0} → List ℕ → Reader K (Unit {0})
 literal_from = scan next_literal literal_end
 
-literal_end_here : {K : Type 0} (rest : List ℕ) → literal_from {K = K} [] rest ≡ answers (Ok tt) rest
+pub literal_end_here : {K : Type 0} (rest : List ℕ) → literal_from {K = K} [] rest ≡ answers (Ok tt) rest
 literal_end_here [] = refl
 literal_end_here (byte ∷ rest) = refl
 
@@ -119,75 +124,84 @@ mark_lifts kind bytes =
 
 -- ---- words
 
-abbrev unit_answer : (K : Type 0) → Result (Unit {0}) (Option K) → List ℕ → Answer K (Unit {0})
-unit_answer K out rest = answers out rest
+abbrev WordEnd : List ℕ → Type 0
+WordEnd = NoneNext is_word_byte
 
-abbrev word_from : {K : Type 0} → List ℕ → Reader K (Unit {0})
-word_from = scan next_literal word_end
+word_ends : {K : Type 0} (rest : List ℕ) → WordEnd rest → word_end_at {K = K} rest ≡ answers (Ok tt) rest
+unfolding word_end_at
+word_ends [] ends = refl
+word_ends (byte ∷ rest) ends = rw ends refl
 
-word_end_here : {K : Type 0} (rest : List ℕ) → NoneNext is_word_byte rest → word_from {K = K} [] rest ≡ answers (Ok tt) rest
-word_end_here [] ends = refl
-word_end_here (byte ∷ rest) ends = rw ends refl
+word_end_is : {K : Type 0} → IsReader WordEnd (word_end_at {K = K})
+unfolding word_end_at
+word_end_is = scan_is (λ unit byte. None) (λ unit byte. word_end byte) (λ unit. ([], tt, word_ends)) tt
 
-word_reads : {K : Type 0} (bytes rest : List ℕ) → NoneNext is_word_byte rest → word_from {K = K} bytes (bytes ++ rest) ≡ answers (Ok tt) rest
-word_reads [] rest ends = word_end_here rest ends
-word_reads (byte ∷ bytes) rest ends = rw (eq-eqb byte byte refl) (word_reads bytes rest ends)
-
-word_sound_from : {K : Type 0} (bytes text rest : List ℕ) → word_from {K = K} bytes text ≡ answers (Ok tt) rest → WholeWord bytes text rest
-word_sound_from [] [] rest e = let none : rest ≡ [] = cc in (sym none, subst (NoneNext is_word_byte) (sym none) tt)
-word_sound_from {K} [] (byte ∷ text) rest e = go (is_word_byte byte) refl e
+word_end_sound : {K : Type 0} (text rest : List ℕ) → word_end_at {K = K} text ≡ answers (Ok tt) rest → (text ≡ rest) × WordEnd rest
+unfolding word_end_at
+word_end_sound [] rest e = let none : [] ≡ rest = cc in (none, subst WordEnd none tt)
+word_end_sound {K} (byte ∷ text) rest e = go (is_word_byte byte) refl e
   where
-    go : (b : Bool) → is_word_byte byte ≡ b → unit_answer K (cond b (Err None) (Ok tt)) (byte ∷ text) ≡ unit_answer K (Ok tt) rest → WholeWord [] (byte ∷ text) rest
+    go : (b : Bool) → is_word_byte byte ≡ b → unit_answer K (cond b (Err None) (Ok tt)) (byte ∷ text) ≡ unit_answer K (Ok tt) rest → (byte ∷ text ≡ rest) × WordEnd rest
     go true is e = absurd cc
-    go false is e = let whole : byte ∷ text ≡ rest = cc in (whole, subst (NoneNext is_word_byte) whole is)
-word_sound_from (wanted ∷ bytes) [] rest e = absurd cc
-word_sound_from {K} (wanted ∷ bytes) (byte ∷ text) rest e = go (eqb byte wanted) refl (word_sound_from bytes text rest) e
+    go false is e = let whole : byte ∷ text ≡ rest = cc in (whole, subst WordEnd whole is)
+
+word_end_starts : {K : Type 0} → Starts Anything WordEnd (word_end_at {K = K})
+word_end_starts = ([], tt, λ rest ends. (tt, word_ends rest ends))
+
+whole_word_is : {K : Type 0} (bytes : List ℕ) → IsReader WordEnd (whole_word_at {K = K} bytes)
+whole_word_is bytes = bind_is (literal_at bytes) (λ _. word_end_at) (literal_is bytes) (λ _. word_end_is) (λ _. word_end_starts)
+
+whole_word_reads : {K : Type 0} (bytes rest : List ℕ) → WordEnd rest → whole_word_at {K = K} bytes (bytes ++ rest) ≡ answers (Ok tt) rest
+unfolding literal_at
+whole_word_reads {K} bytes rest ends =
+    then_next (literal_at {K = K} bytes) (λ _. word_end_at) (bytes ++ rest) rest tt (answers (Ok tt) rest) (literal_reads bytes rest) (word_ends rest ends)
+
+whole_word_sound : {K : Type 0} (bytes text rest : List ℕ) → whole_word_at {K = K} bytes text ≡ answers (Ok tt) rest → WholeWord bytes text rest
+unfolding literal_at
+whole_word_sound {K} bytes text rest e =
+    let parts = bind_read (literal_at {K = K} bytes) (λ _. word_end_at) text rest tt e in
+    let end = word_end_sound parts.1 rest parts.3 in
+    (literal_sound {K = K} bytes text parts.1 parts.2 ∙ ap (λ (t : List ℕ). bytes ++ t) end.0, end.1)
+
+whole_word_lifts : {K : Type 0} (kind : K) (bytes : List ℕ) → Lifts kind (whole_word_at bytes) (whole_word_at bytes)
+unfolding literal_at word_end_at
+whole_word_lifts {K} kind bytes =
+    bind_lifts kind (literal_at bytes) (literal_at bytes) (λ _. word_end_at) (λ _. word_end_at) (literal_is bytes) (λ _. word_end_is) (literal_is bytes) (λ _. word_end_is)
+        (lifts_itself kind (literal_at bytes) (λ text rest out e p. scan_never kind next_literal literal_end (never_literal kind) text bytes rest out e p))
+        (λ _. lifts_itself kind word_end_at (λ text rest out e p. scan_never kind (λ unit byte. None) (λ unit byte. word_end byte) (λ unit byte p. never byte p) text tt rest out e p))
   where
-    go : (b : Bool) → eqb byte wanted ≡ b → (word_from {K = K} bytes text ≡ answers (Ok tt) rest → WholeWord bytes text rest)
-        → scan_from {K = K} next_literal word_end (cond b (Some bytes) None) (wanted ∷ bytes) byte text (λ a. word_from a text) ≡ answers (Ok tt) rest
-        → WholeWord (wanted ∷ bytes) (byte ∷ text) rest
-    go true is more e = let one = eqb-true byte wanted is in let others = more e in let tail = others.0 in (cc, others.1)
-    go false is more e = absurd cc
-
-word_from_is : {K : Type 0} (bytes : List ℕ) → IsReader (NoneNext is_word_byte) (word_from {K = K} bytes)
-word_from_is bytes = scan_is next_literal word_end (λ more. (more, tt, λ rest ends. word_reads more rest ends)) bytes
-
-never_word : {K : Type 0} (kind : K) (state : List ℕ) (byte : Option ℕ) → Passes kind (word_end state byte) → ⊥
-never_word kind [] None p = p
-never_word {K} kind [] (Some byte) p = go (is_word_byte byte) p
-  where
-    go : (b : Bool) → Passes {A = Unit {0}} kind (cond b (Err None) (Ok tt)) → ⊥
-    go true p = p
-    go false p = p
-never_word kind (wanted ∷ more) byte p = p
-
-pub word_lifts : {K : Type 0} (kind : K) (bytes : List ℕ) → Lifts kind (word_at bytes) (word_at bytes)
-unfolding word_at
-word_lifts kind bytes =
-    token_lifts kind (word_from bytes) (word_from bytes) (word_from_is bytes) (word_from_is bytes) (λ rest. refl)
-        (lifts_itself kind (word_from bytes) (λ text rest out e p. scan_never kind next_literal word_end (never_word kind) text bytes rest out e p))
+    here : (b : Bool) → Passes {A = Unit {0}} kind (cond b (Err None) (Ok tt)) → ⊥
+    here true p = p
+    here false p = p
+    never : (byte : Option ℕ) → Passes kind (word_end byte) → ⊥
+    never None p = p
+    never (Some byte) p = here (is_word_byte byte) p
 
 pub word_is : {K : Type 0} (bytes : List ℕ) → IsReader Fresh (word_at {K = K} bytes)
 unfolding word_at
-word_is bytes = token_is (word_from bytes) (word_from_is bytes) (λ rest. refl)
+word_is bytes = token_is (whole_word_at bytes) (whole_word_is bytes) (λ rest. refl)
+
+pub word_lifts : {K : Type 0} (kind : K) (bytes : List ℕ) → Lifts kind (word_at bytes) (word_at bytes)
+unfolding word_at
+word_lifts kind bytes = token_lifts kind (whole_word_at bytes) (whole_word_at bytes) (whole_word_is bytes) (whole_word_is bytes) (λ rest. refl) (whole_word_lifts kind bytes)
 
 pub word_opens : {K : Type 0} (byte : ℕ) (bytes : List ℕ) → Opens byte Fresh (word_at {K = K} (byte ∷ bytes))
 unfolding word_at
 word_opens {K} byte bytes = (bytes ++ (10 ∷ []), tt, λ rest fresh.
     let whole : byte ∷ ((bytes ++ (10 ∷ [])) ++ rest) ≡ (byte ∷ bytes) ++ (10 ∷ rest) = ap (λ (t : List ℕ). byte ∷ t) (append_assoc bytes (10 ∷ []) rest) in
-    ap (token (word_from (byte ∷ bytes))) whole
-    ∙ token_reads (word_from (byte ∷ bytes)) ((byte ∷ bytes) ++ (10 ∷ rest)) (10 ∷ rest) rest tt (word_reads (byte ∷ bytes) (10 ∷ rest) refl) (blanks_line {K = K} rest fresh))
+    ap (token (whole_word_at (byte ∷ bytes))) whole
+    ∙ token_reads (whole_word_at (byte ∷ bytes)) ((byte ∷ bytes) ++ (10 ∷ rest)) (10 ∷ rest) rest tt (whole_word_reads (byte ∷ bytes) (10 ∷ rest) refl) (blanks_line {K = K} rest fresh))
 
 pub word_sound : {K : Type 0} (bytes text rest : List ℕ) → word_at {K = K} bytes text ≡ answers (Ok tt) rest → Word bytes text rest
 unfolding word_at
-word_sound bytes text rest e =
-    let parts = token_sound (word_from bytes) text rest tt e in
-    (parts.0, word_sound_from bytes text parts.0 parts.1, parts.2)
+word_sound {K} bytes text rest e =
+    let parts = token_sound (whole_word_at {K = K} bytes) text rest tt e in
+    (parts.0, whole_word_sound {K = K} bytes text parts.0 parts.1, parts.2)
 
 pub word_complete : {K : Type 0} (bytes text rest : List ℕ) → Word bytes text rest → word_at {K = K} bytes text ≡ answers (Ok tt) rest
 unfolding word_at
-word_complete bytes text rest form =
-    token_complete (word_from bytes) text form.0 rest tt (ap (word_from bytes) form.1.0 ∙ word_reads bytes form.0 form.1.1) form.2
+word_complete {K} bytes text rest form =
+    token_complete (whole_word_at bytes) text form.0 rest tt (ap (whole_word_at bytes) form.1.0 ∙ whole_word_reads {K = K} bytes form.0 form.1.1) form.2
 
 -- ---- numbers
 

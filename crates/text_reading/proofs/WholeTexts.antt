@@ -5,7 +5,7 @@ use Rattle.text_reading.specs.Tokens.{Form, Blanks, is_digit}
 use Rattle.text_reading.specs.Places.{Items, TextOf, Continues, IsPlace, GoesOnWithDigit}
 use Rattle.text_reading.specs.Reading.{first, Answer, Answer.answers, Reader, done, go_on, ◌>>=◌, unless_end, items_within, items_at}
 use Rattle.text_reading.specs.TokenReading.{blanks_at, text_at}
-use Rattle.text_reading.proofs.Readers.{Ends, Starts, IsReader, bind_is, done_is, done_starts, bind_starts, then_next, then_stops, not_longer}
+use Rattle.text_reading.proofs.Readers.{Ends, Starts, IsReader, bind_is, done_is, done_starts, bind_starts, bind_read, then_next, then_stops, not_longer}
 use Rattle.text_reading.proofs.Limits.{Passes, Lifted, Lifted.kept, Lifted.passed, Lifts, lifts_done, bind_lifts}
 use Rattle.text_reading.proofs.BlankFacts.{Fresh, blanks_is, blanks_starts, blanks_sound, blanks_complete}
 use Rattle.text_reading.proofs.TokenFacts.{blanks_lift}
@@ -119,15 +119,6 @@ module _ {K A : Type 0} (item : Reader K A) (moves : Moves item) where
           within_any (length rest) most rest (omega arith) (omega arith)
 
 -- ---- what is read is the text's, and the text's is read
-
-bind_read : {K A B : Type 0} (reader : Reader K A) (next : A → Reader K B) (text rest : List ℕ) (y : B) → (reader >>= next) text ≡ answers (Ok y) rest
-    → (x : A) × (between : List ℕ) × (reader text ≡ answers (Ok x) between) × (next x between ≡ answers (Ok y) rest)
-bind_read {K} {A} {B} reader next text rest y e = go (reader text) refl e
-  where
-    go : (answer : Answer K A) → reader text ≡ answer → go_on answer next ≡ answers (Ok y) rest
-        → (x : A) × (between : List ℕ) × (reader text ≡ answers (Ok x) between) × (next x between ≡ answers (Ok y) rest)
-    go (answers (Err why) left) was e = absurd cc
-    go (answers (Ok x) left) was e = (x, left, was, e)
 
 module _ {K A : Type 0} (item : Reader K A) (form : A → Form) (sound : Sound item form) (complete : Complete item form) (moves : Moves item) where
 

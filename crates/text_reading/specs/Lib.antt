@@ -2,3 +2,4 @@ pub mod Tokens
 pub mod Places
 pub mod Reading
 pub mod TokenReading
+pub mod Given

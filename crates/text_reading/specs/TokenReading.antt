@@ -1,22 +1,24 @@
 -- Readers of the tokens, each a scan.
+use Rattle.text_reading.specs.declared.tokens.Spot.{Spot}
+use Rattle.text_reading.specs.declared.tokens.Spot.TheVariants as spots
 use Rattle.std.specs.Prelude.{ℕ, ◌+◌, ◌-◌, ◌*◌, List, [], ◌∷◌, Bool, true, false, cond, not, ◌&&◌, ◌||◌, ◌==◌, Option, None, Some, Result, Ok, Err}
 use Rattle.text_reading.specs.Reading.{Answer, Reader, done, ◌>>=◌, scan, items_at}
-use Rattle.text_reading.specs.Tokens.{Spot, Spot.outside, Spot.after_slash, Spot.in_comment, is_blank, is_digit, is_word_byte, is_within}
+use Rattle.text_reading.specs.Tokens.{is_blank, is_digit, is_word_byte, is_within}
 
 -- ---- blanks
 
 abbrev pub next_spot : Spot → ℕ → Option Spot
-next_spot outside byte = cond (is_blank byte) (Some outside) (cond (byte == 47) (Some after_slash) None)
-next_spot after_slash byte = cond (byte == 47) (Some in_comment) None
-next_spot in_comment byte = cond (byte == 10) (Some outside) (Some in_comment)
+next_spot spots.Outside byte = cond (is_blank byte) (Some spots.Outside) (cond (byte == 47) (Some spots.AfterSlash) None)
+next_spot spots.AfterSlash byte = cond (byte == 47) (Some spots.InComment) None
+next_spot spots.InComment byte = cond (byte == 10) (Some spots.Outside) (Some spots.InComment)
 
 abbrev pub blanks_end : {K : Type 0} → Spot → Option ℕ → Result (Unit {0}) (Option K)
-blanks_end outside byte = Ok tt
-blanks_end after_slash byte = Err None
-blanks_end in_comment byte = Ok tt
+blanks_end spots.Outside byte = Ok tt
+blanks_end spots.AfterSlash byte = Err None
+blanks_end spots.InComment byte = Ok tt
 
 unfoldable pub blanks_at : {K : Type 0} → Reader K (Unit {0})
-blanks_at = scan next_spot blanks_end outside
+blanks_at = scan next_spot blanks_end spots.Outside
 
 -- what was read, and the blanks behind it
 abbrev pub token : {K A : Type 0} → Reader K A → Reader K A
@@ -39,13 +41,19 @@ literal_at = scan next_literal literal_end
 unfoldable pub mark_at : {K : Type 0} → List ℕ → Reader K (Unit {0})
 mark_at bytes = token (literal_at bytes)
 
-abbrev pub word_end : {K : Type 0} → List ℕ → Option ℕ → Result (Unit {0}) (Option K)
-word_end [] None = Ok tt
-word_end [] (Some byte) = cond (is_word_byte byte) (Err None) (Ok tt)
-word_end (wanted ∷ more) byte = Err None
+-- no letter, digit or `_` is next
+abbrev pub word_end : {K : Type 0} → Option ℕ → Result (Unit {0}) (Option K)
+word_end None = Ok tt
+word_end (Some byte) = cond (is_word_byte byte) (Err None) (Ok tt)
+
+unfoldable pub word_end_at : {K : Type 0} → Reader K (Unit {0})
+word_end_at = scan {S = Unit {0}} (λ unit byte. None) (λ unit byte. word_end byte) tt
+
+abbrev pub whole_word_at : {K : Type 0} → List ℕ → Reader K (Unit {0})
+whole_word_at bytes = literal_at bytes >>= λ _. word_end_at
 
 unfoldable pub word_at : {K : Type 0} → List ℕ → Reader K (Unit {0})
-word_at bytes = token (scan next_literal word_end bytes)
+word_at bytes = token (whole_word_at bytes)
 
 -- ---- numbers
 

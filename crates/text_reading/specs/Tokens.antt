@@ -1,5 +1,7 @@
 -- The tokens of a text and the blanks between them. A form says which bytes may stand at the head of a text,
 -- by the text and by what is left of it.
+use Rattle.text_reading.specs.declared.tokens.Spot.{Spot}
+use Rattle.text_reading.specs.declared.tokens.Spot.TheVariants as spots
 use Rattle.std.specs.Prelude.{◌≡◌, ℕ, List, [], ◌∷◌, ◌++◌, Bool, true, false, ◌&&◌, ◌||◌, ◌==◌, nat_le, nat_lt, Option, None, Some}
 use Rattle.std.specs.Bool.{MatchBool}
 use Rattle.byte_reading.specs.Decimal.{decimal_text}
@@ -31,25 +33,19 @@ abbrev pub NoneNext : (ℕ → Bool) → List ℕ → Type 0
 NoneNext kind [] = Unit {0}
 NoneNext kind (byte ∷ rest) = kind byte ≡ false
 
--- where a byte among blanks stands
-pub data Spot : Type 0 where
-  outside : Spot
-  after_slash : Spot
-  in_comment : Spot
-
 -- all blanks from here on: spaces, tabs, line ends, and comments from `//` to the end of their line or of the text
 abbrev pub BlanksFrom : Spot → Form
-BlanksFrom outside [] rest = rest ≡ []
-BlanksFrom outside (byte ∷ text) rest =
-    MatchBool (is_blank byte) (BlanksFrom outside text rest)
-    (MatchBool (byte == 47) (BlanksFrom after_slash text rest) (rest ≡ byte ∷ text))
-BlanksFrom after_slash [] rest = ⊥
-BlanksFrom after_slash (byte ∷ text) rest = MatchBool (byte == 47) (BlanksFrom in_comment text rest) ⊥
-BlanksFrom in_comment [] rest = rest ≡ []
-BlanksFrom in_comment (byte ∷ text) rest = MatchBool (byte == 10) (BlanksFrom outside text rest) (BlanksFrom in_comment text rest)
+BlanksFrom spots.Outside [] rest = rest ≡ []
+BlanksFrom spots.Outside (byte ∷ text) rest =
+    MatchBool (is_blank byte) (BlanksFrom spots.Outside text rest)
+    (MatchBool (byte == 47) (BlanksFrom spots.AfterSlash text rest) (rest ≡ byte ∷ text))
+BlanksFrom spots.AfterSlash [] rest = ⊥
+BlanksFrom spots.AfterSlash (byte ∷ text) rest = MatchBool (byte == 47) (BlanksFrom spots.InComment text rest) ⊥
+BlanksFrom spots.InComment [] rest = rest ≡ []
+BlanksFrom spots.InComment (byte ∷ text) rest = MatchBool (byte == 10) (BlanksFrom spots.Outside text rest) (BlanksFrom spots.InComment text rest)
 
 abbrev pub Blanks : Form
-Blanks = BlanksFrom outside
+Blanks = BlanksFrom spots.Outside
 
 -- these bytes
 abbrev pub Literal : List ℕ → Form
