@@ -2,7 +2,7 @@
 use Rattle.text_reading.specs.declared.tokens.Spot.{Spot}
 use Rattle.text_reading.specs.declared.tokens.Spot.TheVariants as spots
 use Rattle.std.specs.Prelude.{ℕ, ◌+◌, ◌-◌, ◌*◌, List, [], ◌∷◌, Bool, true, false, cond, not, ◌&&◌, ◌||◌, ◌==◌, Option, None, Some, Result, Ok, Err}
-use Rattle.text_reading.specs.Reading.{Answer, Reader, done, ◌>>=◌, scan, items_at}
+use Rattle.text_reading.specs.Reading.{Answer, Answer.answers, Reader, done, ◌>>=◌, scan, items_at}
 use Rattle.text_reading.specs.Tokens.{is_blank, is_digit, is_word_byte, is_within}
 
 -- ---- blanks
@@ -71,6 +71,11 @@ abbrev pub number_end : {K : Type 0} → K → Option ℕ → Option ℕ → Res
 number_end kind None byte = Err None
 number_end kind (Some n) None = Ok n
 number_end kind (Some n) (Some byte) = cond (is_digit byte) (Err (cond (n == 0) None (Some kind))) (Ok n)
+
+-- the first digit
+abbrev pub first_digit_at : {K : Type 0} → Bool → Reader K ℕ
+first_digit_at zero_too [] = answers (Err None) []
+first_digit_at zero_too (byte ∷ rest) = cond (is_digit byte && (zero_too || not (byte == 48))) (answers (Ok (byte - 48)) rest) (answers (Err None) (byte ∷ rest))
 
 unfoldable pub digits_at : {K : Type 0} → Option ℕ → Bool → K → Reader K ℕ
 digits_at limit zero_too kind = scan (next_number limit zero_too) (number_end kind) None

@@ -8,4 +8,4 @@ mod stop;
 mod tokens;
 
 pub use stop::Stop;
-pub use tokens::{blanks, is_next};
+pub use tokens::{blanks, is_next, mark, number, word};

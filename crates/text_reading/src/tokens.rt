@@ -2,11 +2,11 @@
 //!
 //! A reader takes from the head of `rest`. Where it stops, `rest` begins at the byte with which no text goes on.
 
-ghost use Rattle.std.specs.Prelude.{◌≡◌, ℕ, Option, Some};
+ghost use Rattle.std.specs.Prelude.{◌≡◌, ◌≤◌, ◌+◌, ℕ, Option, Some, None, if◌then◌else◌};
 ghost use Rattle.text_reading.specs.Given.{Gives};
 ghost use Rattle.text_reading.specs.Reading.{begins};
-ghost use Rattle.text_reading.specs.Tokens.{is_blank, is_digit, is_word_byte};
-ghost use Rattle.text_reading.specs.TokenReading.{next_spot, blanks_at, literal_at, mark_at, word_end_at, word_at, digits_at, number_at};
+ghost use Rattle.text_reading.specs.Tokens.{is_blank, is_digit, is_within, is_word_byte};
+ghost use Rattle.text_reading.specs.TokenReading.{next_spot, blanks_at, literal_at, mark_at, word_end_at, word_at, longer, first_digit_at, digits_at, number_at};
 
 use crate::stop::Stop;
 
@@ -156,4 +156,66 @@ pub fn word<K>(rest: &mut &[u8], bytes: &[u8]) -> Result<(), Stop<K>>
     literal(rest, bytes)?;
     word_end(rest)?;
     blanks(rest)
+}
+
+/// The number that is longer by a digit, or `None` where it is above `greatest`.
+fn longer(n: u128, digit: u8, greatest: u128) -> Option<u128>
+    requires { 48 ≤ digit }
+    ensures { result ≡ (if is_within (Some (greatest + 1)) (longer n digit) then Some (longer n digit) else None) }
+{
+    let longer = n.checked_mul(10)?.checked_add(u128::from(digit - b'0'))?;
+    if longer <= greatest {
+        Some(longer)
+    } else {
+        None
+    }
+}
+
+/// The first digit of a number, which is no 0 where a 0 may not stand.
+fn first_digit<K>(rest: &mut &[u8], zero_too: bool) -> Result<u128, Stop<K>>
+    ensures { Gives (λ n. n) result rest.new.now (first_digit_at {K = K} zero_too rest.old.now) }
+{
+    match rest.split_first() {
+        Some((byte, after)) => {
+            if !is_digit(*byte) || (!zero_too && *byte == b'0') {
+                return Err(Stop::Syntax);
+            }
+            *rest = after;
+            Ok(u128::from(*byte - b'0'))
+        }
+        None => Err(Stop::Syntax),
+    }
+}
+
+/// The digits of a number.
+#[tactic(auto, unfolding(crate::specs::TokenReading::digits_at))]
+fn digits<K: Copy>(rest: &mut &[u8], greatest: u128, zero_too: bool, kind: K) -> Result<u128, Stop<K>>
+    ensures { Gives (λ n. n) result rest.new.now (digits_at (Some (greatest + 1)) zero_too kind rest.old.now) }
+{
+    let mut n = first_digit(rest, zero_too)?;
+    while let Some((byte, after)) = rest.split_first() {
+        if !is_digit(*byte) {
+            break;
+        }
+        if n == 0 {
+            return Err(Stop::Syntax);
+        }
+        match longer(n, *byte, greatest) {
+            Some(longer) => n = longer,
+            None => return Err(Stop::Limit(kind)),
+        }
+        *rest = after;
+    }
+    Ok(n)
+}
+
+/// A number up to `greatest` in decimal, with no needless zero before it, and the blanks behind it.
+/// Where `zero_too` isn't set, the number is no 0. `kind` goes into the stop where a digit makes it pass `greatest`.
+#[tactic(auto, unfolding(crate::specs::TokenReading::number_at))]
+pub fn number<K: Copy>(rest: &mut &[u8], greatest: u128, zero_too: bool, kind: K) -> Result<u128, Stop<K>>
+    ensures { Gives (λ n. n) result rest.new.now (number_at (Some (greatest + 1)) zero_too kind rest.old.now) }
+{
+    let n = digits(rest, greatest, zero_too, kind)?;
+    blanks(rest)?;
+    Ok(n)
 }
