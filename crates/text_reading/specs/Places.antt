@@ -1,5 +1,6 @@
 -- Whole texts, and the place where bytes stop being the beginning of one.
-use Rattle.std.specs.Prelude.{◌≡◌, ℕ, suc, ◌+◌, List, [], ◌∷◌, ◌++◌, true, cond, ◌==◌}
+use Rattle.std.specs.Prelude.{◌≡◌, ℕ, ◌+◌, List, [], ◌∷◌, ◌++◌, length, reverse, true, not, ◌==◌}
+use Rattle.std.specs.List.{count_by, take_while}
 use Rattle.text_reading.specs.Tokens.{Form, Blanks, is_digit}
 
 -- items one after another, up to the end of the text
@@ -29,15 +30,10 @@ pub record GoesOnWithDigit {A : Type 0} (IsText : A → List ℕ → Type 0) (fr
   pub is_digit : is_digit digit ≡ true
   pub goes_on : Continues IsText (front ++ (digit ∷ []))
 
--- the number of the line on which the byte behind these bytes stands, from 1
+-- the line of the byte behind these bytes, from 1: lines end at LF
 abbrev pub line_behind : List ℕ → ℕ
-line_behind [] = 1
-line_behind (byte ∷ bytes) = cond (byte == 10) (suc (line_behind bytes)) (line_behind bytes)
+line_behind bytes = count_by (λ byte. byte == 10) bytes + 1
 
--- the column of the byte behind these bytes, from 1, where the byte before them is in this column
-abbrev pub column_from : ℕ → List ℕ → ℕ
-column_from column [] = column
-column_from column (byte ∷ bytes) = column_from (cond (byte == 10) 1 (suc column)) bytes
-
+-- the column of the byte behind these bytes, from 1: columns count bytes
 abbrev pub column_behind : List ℕ → ℕ
-column_behind bytes = column_from 1 bytes
+column_behind bytes = length (take_while (λ byte. not (byte == 10)) (reverse bytes)) + 1

@@ -4,8 +4,10 @@
 //! CASM text, of Sierra text, of inputs and of scripts are made of these.
 #![tactic(auto)]
 
+mod place;
 mod stop;
 mod tokens;
 
+pub use place::Place;
 pub use stop::Stop;
 pub use tokens::{blanks, is_next, mark, number, word};
