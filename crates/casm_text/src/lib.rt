@@ -1,0 +1,9 @@
+//! The text of CASM, both ways: code from its text, and the text of code.
+//!
+//! The bytes of a text come in and code goes out, or the first fault with its place; and code comes in and its text
+//! goes out. The commands that assemble and that print compiled code call it.
+#![tactic(auto)]
+
+mod fault;
+
+pub use fault::NumberKind;
