@@ -1,6 +1,5 @@
 -- The rules on flags of different kinds, as they are tested and as they are said.
-use Rattle.std.proofs.Common.{◌≡◌, ◌≢◌, ◌⊎◌, ◌↔◌, Bool, true, false, ℤ, pos, Option, Some, None, refl, sym, ap, subst, ◌∙◌, inl, inr, arith}
-use Rattle.std.specs.Ordering.{int_eq}
+use Rattle.std.proofs.Common.{◌≡◌, ◌≢◌, false, ℤ, pos, None, refl, sym, arith}
 use Rattle.std.proofs.lemmas.Bool.{false≢true}
 use Rattle.std.proofs.lemmas.Bool.Decides.{nat_tests}
 use Rattle.casm_word.specs.declared.flags.Op1.{Op1}
@@ -14,9 +13,6 @@ use Rattle.casm_word.specs.declared.flags.ApKind.TheVariants as ap
 use Rattle.casm_word.specs.declared.flags.Opcode.{Opcode}
 use Rattle.casm_word.specs.declared.flags.Opcode.TheVariants as opcode
 use Rattle.casm_word.specs.declared.flags.Flags.{Flags}
-use Rattle.casm_word.specs.declared.rules.Rule.{Rule}
-use Rattle.casm_word.specs.declared.rules.Rule.TheVariants.{JnzBesideOthers, CallBesideApFlag, ImmediateNotNext}
-use Rattle.casm_word.specs.declared.decoding.Kinds.{Kinds}
 use Rattle.casm_word.specs.Parts.{IsDefined}
 use Rattle.casm_word.specs.Decoding.{jnz_beside_others, call_beside_ap_flag, immediate_not_next, broken_rule}
 

@@ -1,6 +1,6 @@
 -- What decoding gives: the flags of a word, or the first rule that it meets.
-use Rattle.std.proofs.Common.{◌≡◌, ◌≢◌, ◌⊎◌, ◌↔◌, ℕ, suc, zero, ◌+◌, ◌-◌, ◌*◌, ◌/◌, ◌%◌, ◌^◌, ◌<◌, ◌≤◌, Bool, true, false, cond, ℤ, pos, negsuc, Option, Some, None, Result, Ok, Err, ◌==◌, if◌then◌else◌, leb, refl, sym, ap, subst, ◌∙◌, inl, inr, arith}
-use Rattle.std.proofs.lemmas.Bool.{cases_lt, false≢true, le-leb, lt-leb, leb-true, leb-false}
+use Rattle.std.proofs.Common.{◌≡◌, ◌≢◌, ◌⊎◌, ℕ, ◌+◌, ◌/◌, ◌%◌, ◌^◌, ◌<◌, ◌≤◌, Bool, true, false, cond, ℤ, pos, Option, Some, None, Result, Ok, Err, ◌==◌, if◌then◌else◌, refl, sym, ap, subst, ◌∙◌, inl, inr, arith}
+use Rattle.std.proofs.lemmas.Bool.{cases_lt, false≢true, le-leb, lt-leb}
 use Rattle.std.proofs.lemmas.Bool.Decides.{nat_tests}
 use Rattle.casm_word.specs.declared.flags.Op1.{Op1}
 use Rattle.casm_word.specs.declared.flags.Op1.TheVariants as op1
@@ -18,13 +18,11 @@ use Rattle.casm_word.specs.declared.rules.Rule.TheVariants.{TwoOp1Flags, TwoResF
 use Rattle.casm_word.specs.declared.rules.WordFault.{WordFault}
 use Rattle.casm_word.specs.declared.rules.WordFault.TheVariants.{HighBit, Undefined}
 use Rattle.casm_word.specs.declared.decoding.Kinds.{Kinds}
-use Rattle.casm_word.specs.Offset.{IsNear}
-use Rattle.casm_word.specs.Parts.{IsDefined}
-use Rattle.casm_word.specs.Word.{Word, AreNear, word_of, biased, pc_jnz, opcode_call, op1_imm}
-use Rattle.casm_word.specs.Rules.{IsBitSet, Has, Meets, number, HasHighBit, IsUndefinedBy}
+use Rattle.casm_word.specs.Word.{Word, AreNear, word_of, biased}
+use Rattle.casm_word.specs.Rules.{IsBitSet, Meets, number, HasHighBit, IsUndefinedBy}
 use Rattle.casm_word.specs.Decoding.{field, unbiased, one_of_three, one_of_two, op1_in, res_in, pc_in, ap_in, opcode_in, kinds_of, kinds_in, broken_rule, jnz_beside_others, call_beside_ap_flag, immediate_not_next, parts_in, flags_from, flags_by, decoded}
 use Rattle.casm_word.proofs.Fields.{bit_of_field, field_below}
-use Rattle.casm_word.proofs.OneFlag.{Two, Both, two_in, two_of, both_in, both_of, three_none, three_some, three_code, two_none, two_some, two_code}
+use Rattle.casm_word.proofs.OneFlag.{two_in, two_of, both_in, both_of, three_none, three_some, three_code, two_none, two_some, two_code}
 use Rattle.casm_word.proofs.BrokenRules.{defined_from, none_broken}
 use Rattle.casm_word.proofs.Sums.{op1_code, res_code, pc_code, ap_code, opcode_code, bit_code, op1_adds, res_adds, pc_adds, ap_adds, opcode_adds, bit_adds, bit_of_code, code_of_bit, biased-unbiased, unbiased-biased, biased_below, unbiased_near, word_sum, sum_fields, Fields}
 
@@ -46,7 +44,7 @@ rule_at-number JnzBesideOthers = refl
 rule_at-number CallBesideApFlag = refl
 rule_at-number ImmediateNotNext = refl
 
-same_rule : (a b : Rule) → number a ≡ number b → a ≡ b
+pub same_rule : (a b : Rule) → number a ≡ number b → a ≡ b
 same_rule a b same = sym (rule_at-number a) ∙ ap rule_at same ∙ rule_at-number b
 
 number_bounds : (rule : Rule) → (1 ≤ number rule) × (number rule < 9)
@@ -110,7 +108,7 @@ module _ (word : ℕ) where
   opcode_found x is = (λ met. three_some _ _ _ _ x _ (field_below word 60 3) is (two_of word 60 met), three_code opcode.Nop opcode.Call opcode.Ret opcode.AssertEq opcode_code refl refl refl refl x _ (field_below word 60 3) is)
 
   kinds_mean : (a : Option Op1) (b : Option ResKind) (c : Option PcKind) (d : Option ApKind) (e : Option Opcode)
-    → op1_in word ≡ a → res_in word ≡ b → pc_in word ≡ c → ap_in word ≡ d → opcode_in word ≡ e → KindsMean word (kinds_of a b c d e)
+      → op1_in word ≡ a → res_in word ≡ b → pc_in word ≡ c → ap_in word ≡ d → opcode_in word ≡ e → KindsMean word (kinds_of a b c d e)
   unfolding kinds_of
   kinds_mean None b c d e a-is b-is c-is d-is e-is =
       (none_before_first word, two_in word 50 (three_none _ _ _ _ _ (field_below word 50 3) a-is))
@@ -258,7 +256,7 @@ module _ (word : ℕ) (k : Kinds) (reads : Reads word k) where
 
   module _ (before : NoneBefore 6 word) where
     broken_cases : (x y z : Bool) → jnz_beside_others k.pc k.res k.opcode k.ap ≡ x → call_beside_ap_flag k.opcode k.ap ≡ y → immediate_not_next k.op1 (unbiased (field word 32 16)) ≡ z
-      → BrokenMeans (if x then Some JnzBesideOthers else (if y then Some CallBesideApFlag else (if z then Some ImmediateNotNext else None)))
+        → BrokenMeans (if x then Some JnzBesideOthers else (if y then Some CallBesideApFlag else (if z then Some ImmediateNotNext else None)))
     broken_cases true y z jnz call imm = (before, jnz_met (jnz_bits _ _ _ _ jnz))
     broken_cases false true z jnz call imm =
         let sixth = none_more word JnzBesideOthers before (λ met. no_jnz_bits _ _ _ _ jnz (jnz_of met)) in
@@ -279,7 +277,7 @@ module _ (word : ℕ) (k : Kinds) (reads : Reads word k) where
 -- ---- the whole word
 
 -- what each answer of decoding means
-abbrev Means : ℕ → Result Flags WordFault → Type 0
+abbrev pub Means : ℕ → Result Flags WordFault → Type 0
 Means word (Ok f) = Word f word × ((rule : Rule) → ¬ Meets rule word)
 Means word (Err HighBit) = HasHighBit word
 Means word (Err (Undefined rule)) = IsUndefinedBy rule word
@@ -291,9 +289,27 @@ parts_sum word k below reads =
     let op1 = biased-unbiased (field word 32 16) (field_below word 32 16) in
     let dst_fp = code_of_bit (field word 48 1) (field_below word 48 1) in
     let op0_fp = code_of_bit (field word 49 1) (field_below word 49 1) in
-    omega (arith, word_sum word below, dst, op0, op1, dst_fp, op0_fp, reads.op1, reads.res, reads.pc, reads.ap, reads.opcode,
-      (bit_adds (field word 48 1 == 1) 0).flag_is, (bit_adds (field word 49 1 == 1) 1).flag_is,
-      (op1_adds k.op1).flag_is, (res_adds k.res).flag_is, (pc_adds k.pc).flag_is, (ap_adds k.ap).flag_is, (opcode_adds k.opcode).flag_is)
+    omega (
+      arith,
+      word_sum word below,
+      dst,
+      op0,
+      op1,
+      dst_fp,
+      op0_fp,
+      reads.op1,
+      reads.res,
+      reads.pc,
+      reads.ap,
+      reads.opcode,
+      (bit_adds (field word 48 1 == 1) 0).flag_is,
+      (bit_adds (field word 49 1 == 1) 1).flag_is,
+      (op1_adds k.op1).flag_is,
+      (res_adds k.res).flag_is,
+      (pc_adds k.pc).flag_is,
+      (ap_adds k.ap).flag_is,
+      (opcode_adds k.opcode).flag_is,
+    )
 
 parts_near : (word : ℕ) (k : Kinds) → AreNear (parts_in word k)
 parts_near word k =
@@ -308,22 +324,23 @@ module _ (word : ℕ) (below : word < 2 ^ 63) where
   low bit = absurd (omega (arith, bit))
 
   flags_mean : (k : Kinds) (reads : Reads word k) (found : Option Rule) → broken_rule k (unbiased (field word 32 16)) ≡ found → BrokenMeans word k reads found → Means word (flags_from word found k)
-  flags_mean k reads None is before =
-      (record { is = parts_sum word k below reads; near = parts_near word k; defined = defined_from (parts_in word k) is },
-       λ rule. before rule (number_bounds rule).1)
+  flags_mean k reads None is before = (
+    record { is = parts_sum word k below reads; near = parts_near word k; defined = defined_from (parts_in word k) is },
+    λ rule. before rule (number_bounds rule).1,
+  )
   flags_mean k reads (Some rule) is met = record { low = low; meets = met.1; none_before = met.0 }
 
   kinds_flags_mean : (found : Result Kinds Rule) → KindsMean word found → Means word (flags_by word found)
   kinds_flags_mean (Err rule) met = record { low = low; meets = met.1; none_before = met.0 }
   kinds_flags_mean (Ok k) means = flags_mean k means.1 _ refl (broken_means word k means.1 means.0)
 
-decoded_means : (word : ℕ) → word < 2 ^ 64 → Means word (decoded word)
+pub decoded_means : (word : ℕ) → word < 2 ^ 64 → Means word (decoded word)
 unfolding decoded
 decoded_means word lt =
     elim (cases_lt word (2 ^ 63)) [
       | inl below ↦
           subst (λ b. Means word (cond b (Err HighBit) (flags_by word (kinds_in word)))) (sym (lt-leb (2 ^ 63) word below))
-            (kinds_flags_mean word below (kinds_in word) (kinds_mean word _ _ _ _ _ refl refl refl refl refl))
+          (kinds_flags_mean word below (kinds_in word) (kinds_mean word _ _ _ _ _ refl refl refl refl refl))
       | inr above ↦
           subst (λ b. Means word (cond b (Err HighBit) (flags_by word (kinds_in word)))) (sym (le-leb (2 ^ 63) word above)) (omega arith)
     ]
@@ -331,7 +348,7 @@ decoded_means word lt =
 -- ---- the flags of a word come back
 
 kinds_some : (k : Kinds) (a : Option Op1) (b : Option ResKind) (c : Option PcKind) (d : Option ApKind) (e : Option Opcode)
-  → a ≡ Some k.op1 → b ≡ Some k.res → c ≡ Some k.pc → d ≡ Some k.ap → e ≡ Some k.opcode → kinds_of a b c d e ≡ Ok k
+    → a ≡ Some k.op1 → b ≡ Some k.res → c ≡ Some k.pc → d ≡ Some k.ap → e ≡ Some k.opcode → kinds_of a b c d e ≡ Ok k
 unfolding kinds_of
 kinds_some k a b c d e a-is b-is c-is d-is e-is = rw (a-is, b-is, c-is, d-is, e-is) refl
 
@@ -387,9 +404,9 @@ module _ (f : Flags) (word : ℕ) (w : Word f word) where
       let s = ap_adds f.ap in
       let o = opcode_adds f.opcode in
       sum_fields word _ _ _ _ _ _ _ _ _ _
-        (biased_below f.off_dst w.near.dst) (biased_below f.off_op0 w.near.op0) (biased_below f.off_op1 w.near.op1)
-        a.below b.below x.below r.below q.below s.below o.below
-        (omega (arith, w.is, a.flag_is, b.flag_is, x.flag_is, r.flag_is, q.flag_is, s.flag_is, o.flag_is))
+      (biased_below f.off_dst w.near.dst) (biased_below f.off_op0 w.near.op0) (biased_below f.off_op1 w.near.op1)
+      a.below b.below x.below r.below q.below s.below o.below
+      (omega (arith, w.is, a.flag_is, b.flag_is, x.flag_is, r.flag_is, q.flag_is, s.flag_is, o.flag_is))
 
   pub word_below : word < 2 ^ 63
   word_below =
@@ -400,19 +417,37 @@ module _ (f : Flags) (word : ℕ) (w : Word f word) where
       let q = pc_adds f.pc in
       let s = ap_adds f.ap in
       let o = opcode_adds f.opcode in
-      omega (arith, w.is, biased_below f.off_dst w.near.dst, biased_below f.off_op0 w.near.op0, biased_below f.off_op1 w.near.op1,
-        a.below, b.below, x.below, r.below, q.below, s.below, o.below,
-        a.flag_is, b.flag_is, x.flag_is, r.flag_is, q.flag_is, s.flag_is, o.flag_is)
+      omega (
+        arith,
+        w.is,
+        biased_below f.off_dst w.near.dst,
+        biased_below f.off_op0 w.near.op0,
+        biased_below f.off_op1 w.near.op1,
+        a.below,
+        b.below,
+        x.below,
+        r.below,
+        q.below,
+        s.below,
+        o.below,
+        a.flag_is,
+        b.flag_is,
+        x.flag_is,
+        r.flag_is,
+        q.flag_is,
+        s.flag_is,
+        o.flag_is,
+      )
 
   kinds_found : kinds_in word ≡ Ok kinds_here
   unfolding kinds_here
   kinds_found =
       kinds_some kinds_here _ _ _ _ _
-        (ap (λ n. one_of_three n op1.Op0 op1.Imm op1.Fp op1.Ap) fields_here.op1_kind ∙ op1_back f.op1)
-        (ap (λ n. one_of_two n res.Op1 res.Add res.Mul) fields_here.res ∙ res_back f.res)
-        (ap (λ n. one_of_three n pc.Next pc.Abs pc.Rel pc.Jnz) fields_here.pc ∙ pc_back f.pc)
-        (ap (λ n. one_of_two n apk.Keep apk.Add apk.Inc) fields_here.ap ∙ ap_back f.ap)
-        (ap (λ n. one_of_three n opcode.Nop opcode.Call opcode.Ret opcode.AssertEq) fields_here.opcode ∙ opcode_back f.opcode)
+      (ap (λ n. one_of_three n op1.Op0 op1.Imm op1.Fp op1.Ap) fields_here.op1_kind ∙ op1_back f.op1)
+      (ap (λ n. one_of_two n res.Op1 res.Add res.Mul) fields_here.res ∙ res_back f.res)
+      (ap (λ n. one_of_three n pc.Next pc.Abs pc.Rel pc.Jnz) fields_here.pc ∙ pc_back f.pc)
+      (ap (λ n. one_of_two n apk.Keep apk.Add apk.Inc) fields_here.ap ∙ ap_back f.ap)
+      (ap (λ n. one_of_three n opcode.Nop opcode.Call opcode.Ret opcode.AssertEq) fields_here.opcode ∙ opcode_back f.opcode)
 
   parts_found : parts_in word kinds_here ≡ f
   unfolding with_parts kinds_here
@@ -440,9 +475,3 @@ module _ (f : Flags) (word : ℕ) (w : Word f word) where
       ∙ ap (flags_by word) kinds_found
       ∙ ap (λ found. flags_from word found kinds_here) none_found
       ∙ ap Ok parts_found
-
--- ---- what decoding gives
-
--- decoding gives flags only where the word is below 2 ^ 63
-pub decodes_word : (f : Flags) (word : ℕ) → decoded word ≡ Ok f → Word f word
-decodes_word f word is = ?

@@ -1,5 +1,8 @@
-pub mod BrokenRules
-pub mod DecodingLaws
-pub mod Fields
-pub mod OneFlag
-pub mod Sums
+mod BrokenRules
+mod DecodingLaws
+pub mod EncodingLaws
+pub mod ExpressionLaws
+mod Fields
+mod OneFlag
+mod Sums
+pub mod WordLaws

@@ -1,8 +1,8 @@
 -- Of a few flags of one kind at most one is set: what the bits say, and what each kind adds to a word.
-use Rattle.std.proofs.Common.{◌≡◌, ◌≢◌, ◌⊎◌, ◌↔◌, ℕ, suc, zero, ◌+◌, ◌*◌, ◌^◌, ◌<◌, ◌≤◌, Option, Some, None, MatchOption, refl, sym, ap, subst, ◌∙◌, inl, inr, arith}
+use Rattle.std.proofs.Common.{◌≡◌, ◌⊎◌, ℕ, suc, zero, ◌+◌, ◌<◌, Some, None, refl, sym, subst, ◌∙◌, inl, inr, arith}
 use Rattle.casm_word.specs.Rules.{IsBitSet}
 use Rattle.casm_word.specs.Decoding.{field, one_of_three, one_of_two}
-use Rattle.casm_word.proofs.Fields.{bit_of_field, field_below}
+use Rattle.casm_word.proofs.Fields.{bit_of_field}
 
 -- two of the three bits from a place on are set
 abbrev pub Two : ℕ → ℕ → Type 0
@@ -61,25 +61,25 @@ module _ {A : Type 0} (none first second third : A) where
   pub three_none : (bits : ℕ) → bits < 8 → one_of_three bits none first second third ≡ None → Two bits 0
   three_none =
       below_8 (λ n. one_of_three n none first second third ≡ None → Two n 0)
-        (λ is. cc) (λ is. cc) (λ is. cc) (λ is. inl (refl, refl)) (λ is. cc) (λ is. inr (inl (refl, refl))) (λ is. inr (inr (refl, refl))) (λ is. inl (refl, refl))
+      (λ is. cc) (λ is. cc) (λ is. cc) (λ is. inl (refl, refl)) (λ is. cc) (λ is. inr (inl (refl, refl))) (λ is. inr (inr (refl, refl))) (λ is. inl (refl, refl))
 
   -- a value: no two flags are set
   pub three_some : (x : A) (bits : ℕ) → bits < 8 → one_of_three bits none first second third ≡ Some x → ¬ Two bits 0
   three_some x =
       below_8 (λ n. one_of_three n none first second third ≡ Some x → ¬ Two n 0)
-        (λ is. not_two 0 (λ i j. cc) (λ i k. cc) (λ j k. cc)) (λ is. not_two 1 (λ i j. cc) (λ i k. cc) (λ j k. cc)) (λ is. not_two 2 (λ i j. cc) (λ i k. cc) (λ j k. cc))
-        (λ is. cc) (λ is. not_two 4 (λ i j. cc) (λ i k. cc) (λ j k. cc)) (λ is. cc) (λ is. cc) (λ is. cc)
+      (λ is. not_two 0 (λ i j. cc) (λ i k. cc) (λ j k. cc)) (λ is. not_two 1 (λ i j. cc) (λ i k. cc) (λ j k. cc)) (λ is. not_two 2 (λ i j. cc) (λ i k. cc) (λ j k. cc))
+      (λ is. cc) (λ is. not_two 4 (λ i j. cc) (λ i k. cc) (λ j k. cc)) (λ is. cc) (λ is. cc) (λ is. cc)
 
   -- which value it is says which flag is set
   pub three_code : (code : A → ℕ) → code none ≡ 0 → code first ≡ 1 → code second ≡ 2 → code third ≡ 4 → (x : A) (bits : ℕ) → bits < 8 → one_of_three bits none first second third ≡ Some x → bits ≡ code x
   three_code code zeroth one two four x =
       below_8 (λ n. one_of_three n none first second third ≡ Some x → n ≡ code x)
-        (λ is. let same : none ≡ x = cc in sym (subst (λ y. code y ≡ 0) same zeroth))
-        (λ is. let same : first ≡ x = cc in sym (subst (λ y. code y ≡ 1) same one))
-        (λ is. let same : second ≡ x = cc in sym (subst (λ y. code y ≡ 2) same two))
-        (λ is. cc)
-        (λ is. let same : third ≡ x = cc in sym (subst (λ y. code y ≡ 4) same four))
-        (λ is. cc) (λ is. cc) (λ is. cc)
+      (λ is. let same : none ≡ x = cc in sym (subst (λ y. code y ≡ 0) same zeroth))
+      (λ is. let same : first ≡ x = cc in sym (subst (λ y. code y ≡ 1) same one))
+      (λ is. let same : second ≡ x = cc in sym (subst (λ y. code y ≡ 2) same two))
+      (λ is. cc)
+      (λ is. let same : third ≡ x = cc in sym (subst (λ y. code y ≡ 4) same four))
+      (λ is. cc) (λ is. cc) (λ is. cc)
 
 module _ {A : Type 0} (none first second : A) where
   pub two_none : (bits : ℕ) → bits < 4 → one_of_two bits none first second ≡ None → Both bits 0
@@ -88,12 +88,12 @@ module _ {A : Type 0} (none first second : A) where
   pub two_some : (x : A) (bits : ℕ) → bits < 4 → one_of_two bits none first second ≡ Some x → ¬ Both bits 0
   two_some x =
       below_4 (λ n. one_of_two n none first second ≡ Some x → ¬ Both n 0)
-        (λ is both. let i = both.0 in cc) (λ is both. let j = both.1 in cc) (λ is both. let i = both.0 in cc) (λ is both. cc)
+      (λ is both. let i = both.0 in cc) (λ is both. let j = both.1 in cc) (λ is both. let i = both.0 in cc) (λ is both. cc)
 
   pub two_code : (code : A → ℕ) → code none ≡ 0 → code first ≡ 1 → code second ≡ 2 → (x : A) (bits : ℕ) → bits < 4 → one_of_two bits none first second ≡ Some x → bits ≡ code x
   two_code code zeroth one two x =
       below_4 (λ n. one_of_two n none first second ≡ Some x → n ≡ code x)
-        (λ is. let same : none ≡ x = cc in sym (subst (λ y. code y ≡ 0) same zeroth))
-        (λ is. let same : first ≡ x = cc in sym (subst (λ y. code y ≡ 1) same one))
-        (λ is. let same : second ≡ x = cc in sym (subst (λ y. code y ≡ 2) same two))
-        (λ is. cc)
+      (λ is. let same : none ≡ x = cc in sym (subst (λ y. code y ≡ 0) same zeroth))
+      (λ is. let same : first ≡ x = cc in sym (subst (λ y. code y ≡ 1) same one))
+      (λ is. let same : second ≡ x = cc in sym (subst (λ y. code y ≡ 2) same two))
+      (λ is. cc)

@@ -1,5 +1,5 @@
 -- A word as the sum of its fields, and the fields of the sum that flags make.
-use Rattle.std.proofs.Common.{◌≡◌, ◌≢◌, ◌⊎◌, ◌↔◌, ℕ, suc, zero, ◌+◌, ◌-◌, ◌*◌, ◌/◌, ◌%◌, ◌^◌, ◌<◌, ◌≤◌, Bool, true, false, cond, ℤ, pos, negsuc, Option, Some, None, ◌==◌, refl, sym, ap, subst, ◌∙◌, inl, inr, arith}
+use Rattle.std.proofs.Common.{◌≡◌, ℕ, suc, zero, ◌+◌, ◌-◌, ◌*◌, ◌^◌, ◌<◌, ◌≤◌, Bool, true, false, cond, ℤ, pos, negsuc, ◌==◌, refl, ap, ◌∙◌, inl, inr, arith}
 use Rattle.std.proofs.lemmas.Bool.{cases_lt, lt-ltb, le-ltb}
 use Rattle.std.proofs.lemmas.Int.{ints}
 use Rattle.casm_word.specs.declared.flags.Op1.{Op1}
@@ -12,11 +12,10 @@ use Rattle.casm_word.specs.declared.flags.ApKind.{ApKind}
 use Rattle.casm_word.specs.declared.flags.ApKind.TheVariants as apk
 use Rattle.casm_word.specs.declared.flags.Opcode.{Opcode}
 use Rattle.casm_word.specs.declared.flags.Opcode.TheVariants as opcode
-use Rattle.casm_word.specs.declared.flags.Flags.{Flags}
 use Rattle.casm_word.specs.Offset.{IsNear}
-use Rattle.casm_word.specs.Word.{biased, set_if, op1_flag, res_flag, pc_flag, ap_flag, opcode_flag, word_of, AreNear, Word}
-use Rattle.casm_word.specs.Decoding.{field, unbiased, one_of_three, one_of_two}
-use Rattle.casm_word.proofs.Fields.{field_is, split_field, field_below}
+use Rattle.casm_word.specs.Word.{biased, set_if, op1_flag, res_flag, pc_flag, ap_flag, opcode_flag}
+use Rattle.casm_word.specs.Decoding.{field, unbiased}
+use Rattle.casm_word.proofs.Fields.{field_is, split_field}
 
 -- ---- each part as a number of few bits
 
@@ -146,9 +145,19 @@ pub word_sum : (word : ℕ) → word < 2 ^ 63 →
     + field word 48 1 * 2 ^ 48 + field word 49 1 * 2 ^ 49
     + field word 50 3 * 2 ^ 50 + field word 53 2 * 2 ^ 53 + field word 55 3 * 2 ^ 55 + field word 58 2 * 2 ^ 58 + field word 60 3 * 2 ^ 60 ≡ word
 word_sum word below =
-    omega (arith,
-      split_field word 0 16, split_field word 16 16, split_field word 32 16, split_field word 48 1, split_field word 49 1,
-      split_field word 50 3, split_field word 53 2, split_field word 55 3, split_field word 58 2, split_field word 60 3)
+    omega (
+      arith,
+      split_field word 0 16,
+      split_field word 16 16,
+      split_field word 32 16,
+      split_field word 48 1,
+      split_field word 49 1,
+      split_field word 50 3,
+      split_field word 53 2,
+      split_field word 55 3,
+      split_field word 58 2,
+      split_field word 60 3,
+    )
 
 -- the fields of a sum
 pub record Fields (word d o p a b x r q s c : ℕ) : Type 0 where

@@ -1,5 +1,5 @@
 -- The flags of an instruction, and the words that it takes.
-use Rattle.std.specs.Prelude.{ℕ, Bool, true, false, ℤ, pos, Option, Some, None, List, [], ◌∷◌}
+use Rattle.std.specs.Prelude.{ℕ, Bool, true, false, ℤ, pos, Option, Some, None, List, ◌∷◌}
 use Rattle.std.specs.Option.{option_to_list}
 use Rattle.casm_word.specs.declared.instr.Reg.{Reg}
 use Rattle.casm_word.specs.declared.instr.Reg.TheVariants as reg

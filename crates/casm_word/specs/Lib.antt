@@ -1,7 +1,7 @@
+pub mod Bounds
 pub mod Decoding
 pub mod Encoding
 pub mod Expressions
-pub mod Immediates
 pub mod Offset
 pub mod Parts
 pub mod Rules

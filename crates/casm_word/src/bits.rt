@@ -8,19 +8,33 @@ ghost use Rattle.casm_word.specs.Word.{set, set_if};
 pub const FLAGS: u32 = 48;
 
 pub const DST_REG: u32 = 0;
+
 pub const OP0_REG: u32 = 1;
+
 pub const OP1_IMM: u32 = 2;
+
 pub const OP1_FP: u32 = 3;
+
 pub const OP1_AP: u32 = 4;
+
 pub const RES_ADD: u32 = 5;
+
 pub const RES_MUL: u32 = 6;
+
 pub const PC_JUMP_ABS: u32 = 7;
+
 pub const PC_JUMP_REL: u32 = 8;
+
 pub const PC_JNZ: u32 = 9;
+
 pub const AP_ADD: u32 = 10;
+
 pub const AP_ADD1: u32 = 11;
+
 pub const OPCODE_CALL: u32 = 12;
+
 pub const OPCODE_RET: u32 = 13;
+
 pub const OPCODE_ASSERT_EQ: u32 = 14;
 
 /// The word in which this flag alone is set.

@@ -3,7 +3,7 @@
 
 ghost use Rattle.std.specs.Prelude.{◌≡◌, List, [], ◌∷◌, ◌++◌, IfOk, OnOk, OnErr};
 ghost use Rattle.std.specs.List.{All, flat_map};
-ghost use Rattle.casm_word.specs.Immediates.{IsInstrInField};
+ghost use Rattle.casm_word.specs.Bounds.{IsInstrInField};
 ghost use Rattle.casm_word.specs.Encoding.{words_of};
 
 use crate::encoding::encode;
@@ -21,7 +21,7 @@ impl Model for Code {
     ghost use Rattle.std.specs.Prelude.{List};
     ghost use Rattle.std.specs.List.{All};
     ghost use Rattle.casm_word.specs.declared.instr.Instr.{Instr};
-    ghost use Rattle.casm_word.specs.Immediates.{IsInstrInField};
+    ghost use Rattle.casm_word.specs.Bounds.{IsInstrInField};
 
     ghost Value = { List Instr };
 

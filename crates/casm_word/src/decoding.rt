@@ -70,8 +70,19 @@ impl Kinds {
     fn of(word: u64) -> Result<Kinds, Rule>
         ensures { result ≡ kinds_in word }
     {
-        let op1 = one_of_three(field(word, bits::FLAGS + bits::OP1_IMM, 3), Op1::Op0, Op1::Imm, Op1::Fp, Op1::Ap);
-        let res = one_of_two(field(word, bits::FLAGS + bits::RES_ADD, 2), ResKind::Op1, ResKind::Add, ResKind::Mul);
+        let op1 = one_of_three(
+            field(word, bits::FLAGS + bits::OP1_IMM, 3),
+            Op1::Op0,
+            Op1::Imm,
+            Op1::Fp,
+            Op1::Ap,
+        );
+        let res = one_of_two(
+            field(word, bits::FLAGS + bits::RES_ADD, 2),
+            ResKind::Op1,
+            ResKind::Add,
+            ResKind::Mul,
+        );
         let pc = one_of_three(
             field(word, bits::FLAGS + bits::PC_JUMP_ABS, 3),
             PcKind::Next,
@@ -79,7 +90,12 @@ impl Kinds {
             PcKind::Rel,
             PcKind::Jnz,
         );
-        let ap = one_of_two(field(word, bits::FLAGS + bits::AP_ADD, 2), ApKind::Keep, ApKind::Add, ApKind::Inc);
+        let ap = one_of_two(
+            field(word, bits::FLAGS + bits::AP_ADD, 2),
+            ApKind::Keep,
+            ApKind::Add,
+            ApKind::Inc,
+        );
         let opcode = one_of_three(
             field(word, bits::FLAGS + bits::OPCODE_CALL, 3),
             Opcode::Nop,
@@ -133,9 +149,21 @@ impl Kinds {
 ///
 /// # Errors
 ///
-/// `HighBit` where bit 63 is set, and else the first rule that the word meets.
-#[tactic(auto, unfolding(crate::specs::Decoding::decoded))]
+/// `HighBit` if bit 63 is set, and else the first rule that the word meets.
 pub fn decode(word: u64) -> Result<Flags, WordFault>
+    ensures ok { (f : Flags) → (result ≡ Ok f) ↔ Word f word }
+    ensures high_bit { (result ≡ Err WordFault.HighBit) ↔ HasHighBit word }
+    ensures undefined { (rule : Rule) → (result ≡ Err (WordFault.Undefined rule)) ↔ IsUndefinedBy rule word }
+
+    // The same as a function of the word, for the laws of steps.
+    ensures value { result ≡ decoded word }
+{
+    cut(word)
+}
+
+/// The parts that are cut out of a word's bits.
+#[tactic(auto, unfolding(crate::specs::Decoding::decoded))]
+fn cut(word: u64) -> Result<Flags, WordFault>
     ensures { result ≡ decoded word }
 {
     if word >= 1 << 63 {

@@ -178,17 +178,9 @@ pub fn word_of(f: &Flags) -> u64
     ensures word { Word f.now result }
     ensures value { result ≡ word_of f.now }
 {
-    let offsets =
-        biased(f.off_dst) + biased(f.off_op0) * (1 << 16) + biased(f.off_op1) * (1 << 32);
-    let registers =
-        bits::set_if(f.dst_fp, bits::DST_REG) + bits::set_if(f.op0_fp, bits::OP0_REG);
-    offsets
-        + registers
-        + f.op1.flag()
-        + f.res.flag()
-        + f.pc.flag()
-        + f.ap.flag()
-        + f.opcode.flag()
+    let offsets = biased(f.off_dst) + biased(f.off_op0) * (1 << 16) + biased(f.off_op1) * (1 << 32);
+    let registers = bits::set_if(f.dst_fp, bits::DST_REG) + bits::set_if(f.op0_fp, bits::OP0_REG);
+    offsets + registers + f.op1.flag() + f.res.flag() + f.pc.flag() + f.ap.flag() + f.opcode.flag()
 }
 
 /// An offset as it stands in a word.

@@ -12,7 +12,10 @@ mod decoding;
 mod encoding;
 mod flags;
 mod instr;
+mod laws;
 mod rules;
+#[cfg(test)]
+mod tests;
 
 pub use cell_expr::{At, CellExpr, Side};
 pub use code::{Code, words};
@@ -20,4 +23,8 @@ pub use decoding::decode;
 pub use encoding::{Encoded, encode, flags_of, word_of};
 pub use flags::{ApKind, Flags, Op1, Opcode, PcKind, ResKind};
 pub use instr::{CellRef, Instr, Operand, Reg, Res};
+pub use laws::{
+    decoding_undoes_encoding, defined_words, encoding_undoes_decoding, instructions_have_words,
+    lowered_twice, one_flags, words_in_field,
+};
 pub use rules::{Rule, WordFault};

@@ -1,5 +1,5 @@
 use Rattle.std.proofs.lemmas.List.Elements.{All-push}
-use Rattle.casm_word.specs.Immediates.{IsInstrInField}
+use Rattle.casm_word.specs.Bounds.{IsInstrInField}
 use Rattle.casm_word.proofs.code.Code.push.Goals as goal
 
 pub invariant_of-self-2 : goal.invariant_of-self-2
