@@ -33,6 +33,16 @@ ending_at = branch 44
     (mark_at (codes ",") >>= λ _. word_at (codes "ap") >>= λ _. mark_at (codes "++") >>= λ _. mark_at (codes ";") >>= λ _. done true)
     (mark_at (codes ";") >>= λ _. done false)
 
+-- `rel` or `abs`
+unfoldable pub base_at : Casm Bool
+base_at = branch 114 (word_at (codes "rel") >>= λ _. done true) (word_at (codes "abs") >>= λ _. done false)
+
+unfoldable pub jump_end_at : Bool → Res → Casm Instr
+jump_end_at rel to = ending_at >>= λ ap_inc. done (instrs.Jump rel to ap_inc)
+
+unfoldable pub ret_at : Casm Instr
+ret_at = word_at (codes "ret") >>= λ _. mark_at (codes ";") >>= λ _. done instrs.Ret
+
 module _ (limits : Limits) where
   unfoldable pub offset_at : Casm ℤ
   offset_at = branch 45
@@ -84,9 +94,6 @@ module _ (limits : Limits) where
   jnz_at to =
       word_at (codes "if") >>= λ _. cell_at >>= λ cond. mark_at (codes "!=") >>= λ _. mark_at (codes "0") >>= λ _. ending_at >>= λ ap_inc. done (instrs.Jnz cond to ap_inc)
 
-  unfoldable pub jump_end_at : Bool → Res → Casm Instr
-  jump_end_at rel to = ending_at >>= λ ap_inc. done (instrs.Jump rel to ap_inc)
-
   -- behind `jmp rel` and what follows it
   unfoldable pub relative_end_at : Res → Casm Instr
   relative_end_at (results.Cell cell) = branch 105 (jnz_at (operands.Cell cell)) (jump_end_at true (results.Cell cell))
@@ -100,18 +107,11 @@ module _ (limits : Limits) where
       (word_at (codes "rel") >>= λ _. res_at >>= λ to. relative_end_at to)
       (word_at (codes "abs") >>= λ _. res_at >>= λ to. jump_end_at false to)
 
-  -- `rel` or `abs`
-  unfoldable pub base_at : Casm Bool
-  base_at = branch 114 (word_at (codes "rel") >>= λ _. done true) (word_at (codes "abs") >>= λ _. done false)
-
   unfoldable pub call_at : Casm Instr
   call_at = word_at (codes "call") >>= λ _. base_at >>= λ rel. operand_at >>= λ to. mark_at (codes ";") >>= λ _. done (instrs.Call rel to)
 
   unfoldable pub add_ap_at : Casm Instr
   add_ap_at = word_at (codes "ap") >>= λ _. mark_at (codes "+=") >>= λ _. res_at >>= λ by. mark_at (codes ";") >>= λ _. done (instrs.AddAp by)
-
-  unfoldable pub ret_at : Casm Instr
-  ret_at = word_at (codes "ret") >>= λ _. mark_at (codes ";") >>= λ _. done instrs.Ret
 
   unfoldable pub instr_at : Casm Instr
   instr_at = branch 91 assert_at (branch 106 jump_at (branch 99 call_at (branch 97 add_ap_at ret_at)))

@@ -31,6 +31,20 @@ abbrev pub without : NumberKind → Limits → Limits
 without kinds.Offset limits = record { offset = None; imm = limits.imm }
 without kinds.Imm limits = record { offset = limits.offset; imm = None }
 
+abbrev pub Register : Reg → Form
+Register regs.Ap = Word (codes "ap")
+Register regs.Fp = Word (codes "fp")
+
+-- `;`, or `, ap++;`
+abbrev pub Ending : Bool → Form
+Ending false = Mark (codes ";")
+Ending true = Mark (codes ",") then Word (codes "ap") then Mark (codes "++") then Mark (codes ";")
+
+-- `rel` or `abs`
+abbrev pub Base : Bool → Form
+Base true = Word (codes "rel")
+Base false = Word (codes "abs")
+
 module _ (limits : Limits) where
   -- a number, or `-` and a number other than 0
   abbrev pub Offset : ℤ → Form
@@ -43,10 +57,6 @@ module _ (limits : Limits) where
 
   abbrev pub Imm : ℕ → Form
   Imm n text rest = Number limits.imm n text rest ⊎ NegativeImm n text rest
-
-  abbrev pub Register : Reg → Form
-  Register regs.Ap = Word (codes "ap")
-  Register regs.Fp = Word (codes "fp")
 
   -- `[ap + int]`, `[fp + int]`
   abbrev pub Cell : CellRef → Form
@@ -62,16 +72,6 @@ module _ (limits : Limits) where
   ResText (results.Imm n) = Imm n
   ResText (results.Add cell operand) = Cell cell then Mark (codes "+") then OperandText operand
   ResText (results.Mul cell operand) = Cell cell then Mark (codes "*") then OperandText operand
-
-  -- `;`, or `, ap++;`
-  abbrev pub Ending : Bool → Form
-  Ending false = Mark (codes ";")
-  Ending true = Mark (codes ",") then Word (codes "ap") then Mark (codes "++") then Mark (codes ";")
-
-  -- `rel` or `abs`
-  abbrev pub Base : Bool → Form
-  Base true = Word (codes "rel")
-  Base false = Word (codes "abs")
 
   abbrev pub InstrText : Instr → Form
   InstrText (instrs.AssertEq dst res ap_inc) = Cell dst then Mark (codes "=") then ResText res then Ending ap_inc

@@ -5,3 +5,4 @@ pub mod BlankFacts
 pub mod TokenFacts
 pub mod NumberFacts
 pub mod WholeTexts
+pub mod Languages
