@@ -6,3 +6,4 @@ pub mod TokenFacts
 pub mod NumberFacts
 pub mod WholeTexts
 pub mod Languages
+pub mod Exact
