@@ -21,10 +21,22 @@ exact_as exact there back = record {
   complete = λ text rest x h. exact.complete text rest x (back x text rest h);
 }
 
+-- what readers that are joined read: one form and then the next, with its tree
+abbrev pub Then : {A B : Type 0} → (A → Form) → (A → B → Form) → B → Form
+Then {A} {B} form then_form y text rest = (x : A) × (between : List ℕ) × form x text between × then_form x y between rest
+
+-- a form, and the tree that is made of its own
+abbrev pub Made : {A B : Type 0} → (A → B) → (A → Form) → B → Form
+Made {A} {B} make form y text rest = (x : A) × (make x ≡ y) × form x text rest
+
+-- the first form, or the second where the byte isn't next
+abbrev pub Or : {A : Type 0} → ℕ → (A → Form) → (A → Form) → A → Form
+Or byte form other y text rest = form y text rest ⊎ ((begins byte text ≡ false) × other y text rest)
+
 module _ {K A B : Type 0} {reader : Reader K A} {next : A → Reader K B} {form : A → Form} {then_form : A → B → Form} where
   -- one form and then the next
   pub exact_then : IsExact reader form → ((x : A) → IsExact (next x) (then_form x))
-      → IsExact (reader >>= next) (λ y text rest. (x : A) × (between : List ℕ) × form x text between × then_form x y between rest)
+      → IsExact (reader >>= next) (Then form then_form)
   exact_then exact nexts = record {
     sound = λ text rest y e.
         let both = bind_read reader next text rest y e in
@@ -35,7 +47,7 @@ module _ {K A B : Type 0} {reader : Reader K A} {next : A → Reader K B} {form 
 
 -- a form and its tree
 pub exact_last : {K A B : Type 0} {reader : Reader K A} {form : A → Form} (make : A → B) → IsExact reader form
-    → IsExact (reader >>= λ x. done (make x)) (λ y text rest. (x : A) × (make x ≡ y) × form x text rest)
+    → IsExact (reader >>= λ x. done (make x)) (Made make form)
 exact_last {K} {A} {B} {reader} {form} make exact = record {
   sound = λ text rest y e.
       let both = bind_read reader (λ x. done (make x)) text rest y e in
@@ -67,7 +79,7 @@ Begins {A} test answer form = (x : A) (text rest : List ℕ) → form x text res
 -- the choice by the next byte
 pub exact_branch : {K A : Type 0} (byte : ℕ) {reader other : Reader K A} {form other_form : A → Form} → IsExact reader form → IsExact other other_form
     → Begins (begins byte) true form
-    → IsExact (branch byte reader other) (λ y text rest. form y text rest ⊎ ((begins byte text ≡ false) × other_form y text rest))
+    → IsExact (branch byte reader other) (Or byte form other_form)
 exact_branch {K} {A} byte {reader} {other} {form} {other_form} exact others begins_so = record {
   sound = λ text rest y e. sound_at text rest y (begins byte text) refl e;
   complete = λ text rest y h. complete_at text rest y h;
