@@ -5,5 +5,6 @@
 #![tactic(auto)]
 
 mod fault;
+mod reading;
 
 pub use fault::NumberKind;

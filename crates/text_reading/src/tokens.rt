@@ -2,7 +2,7 @@
 //!
 //! A reader takes from the head of `rest`. Where it stops, `rest` begins at the byte with which no text goes on.
 
-ghost use Rattle.std.specs.Prelude.{◌≡◌, ◌≤◌, ◌+◌, ℕ, Option, Some, None, if◌then◌else◌};
+ghost use Rattle.std.specs.Prelude.{◌≡◌, ◌≤◌, ◌<◌, ◌+◌, IfOk, ℕ, Option, Some, None, if◌then◌else◌};
 ghost use Rattle.text_reading.specs.Given.{Gives};
 ghost use Rattle.text_reading.specs.Reading.{begins};
 ghost use Rattle.text_reading.specs.Tokens.{is_blank, is_digit, is_within, is_word_byte};
@@ -173,7 +173,8 @@ fn longer(n: u128, digit: u8, greatest: u128) -> Option<u128>
 
 /// The first digit of a number, which is no 0 where a 0 may not stand.
 fn first_digit<K>(rest: &mut &[u8], zero_too: bool) -> Result<u128, Stop<K>>
-    ensures { Gives (λ n. n) result rest.new.now (first_digit_at {K = K} zero_too rest.old.now) }
+    ensures below { IfOk result (λ n. n < 10) }
+    ensures read { Gives (λ n. n) result rest.new.now (first_digit_at {K = K} zero_too rest.old.now) }
 {
     match rest.split_first() {
         Some((byte, after)) => {
@@ -190,7 +191,9 @@ fn first_digit<K>(rest: &mut &[u8], zero_too: bool) -> Result<u128, Stop<K>>
 /// The digits of a number.
 #[tactic(auto, unfolding(crate::specs::TokenReading::digits_at))]
 fn digits<K: Copy>(rest: &mut &[u8], greatest: u128, zero_too: bool, kind: K) -> Result<u128, Stop<K>>
-    ensures { Gives (λ n. n) result rest.new.now (digits_at (Some (greatest + 1)) zero_too kind rest.old.now) }
+    requires { 9 ≤ greatest }
+    ensures within { IfOk result (λ n. n ≤ greatest) }
+    ensures read { Gives (λ n. n) result rest.new.now (digits_at (Some (greatest + 1)) zero_too kind rest.old.now) }
 {
     let mut n = first_digit(rest, zero_too)?;
     while let Some((byte, after)) = rest.split_first() {
@@ -210,10 +213,13 @@ fn digits<K: Copy>(rest: &mut &[u8], greatest: u128, zero_too: bool, kind: K) ->
 }
 
 /// A number up to `greatest` in decimal, with no needless zero before it, and the blanks behind it.
-/// Where `zero_too` isn't set, the number is no 0. `kind` goes into the stop where a digit makes it pass `greatest`.
+/// Where `zero_too` isn't set, the number is no 0. `kind` goes into the stop where a digit makes it pass `greatest`,
+/// which no first digit does.
 #[tactic(auto, unfolding(crate::specs::TokenReading::number_at))]
 pub fn number<K: Copy>(rest: &mut &[u8], greatest: u128, zero_too: bool, kind: K) -> Result<u128, Stop<K>>
-    ensures { Gives (λ n. n) result rest.new.now (number_at (Some (greatest + 1)) zero_too kind rest.old.now) }
+    requires { 9 ≤ greatest }
+    ensures within { IfOk result (λ n. n ≤ greatest) }
+    ensures read { Gives (λ n. n) result rest.new.now (number_at (Some (greatest + 1)) zero_too kind rest.old.now) }
 {
     let n = digits(rest, greatest, zero_too, kind)?;
     blanks(rest)?;
