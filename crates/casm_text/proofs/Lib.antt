@@ -1,2 +1,4 @@
 pub mod Forms
 pub mod ExactForms
+pub mod Laws
+pub mod Words

@@ -4,7 +4,8 @@
 //! goes out. The commands that assemble and that print compiled code call it.
 #![tactic(auto)]
 
+mod assembling;
 mod fault;
 mod reading;
 
-pub use fault::NumberKind;
+pub use fault::{AsmFault, NumberKind};

@@ -7,3 +7,4 @@ pub mod NumberFacts
 pub mod WholeTexts
 pub mod Languages
 pub mod Exact
+pub mod Stops

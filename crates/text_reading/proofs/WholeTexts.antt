@@ -300,3 +300,36 @@ text_limit {K} {A} kind item bare bare_form is moves bare_is sound complete bare
           digit = digit; more = more; next = rest_is; is_digit = is_one;
           goes_on = (ends.1, ends.0 ++ [], whole_sound bare bare_form bare_is sound complete bare_moves most ((front ++ (digit ∷ [])) ++ (ends.0 ++ [])) ends.1 (ends.2 [] refl));
         }, λ _. p)
+
+-- ---- items, read one after another
+
+-- an answer with items before those that were read
+abbrev pub behind_items : {K A : Type 0} → List A → Answer K (List A) → Answer K (List A)
+behind_items front (answers (Ok items) rest) = answers (Ok (front ++ items)) rest
+behind_items front (answers (Err why) rest) = answers (Err why) rest
+
+module _ {K A : Type 0} (item : Reader K A) (moves : Moves item) where
+  -- at the end there are no more
+  pub items_end : (front : List A) (text : List ℕ) → length text ≡ 0 → behind_items front (items_at item text) ≡ answers (Ok front) []
+  unfolding items_at items_within
+  items_end front [] short = ap (λ (l : List A). answers (Ok l) []) (append-nil front)
+  items_end front (byte ∷ text) short = absurd (omega arith)
+
+  -- a stop within an item
+  pub items_stop : (front : List A) (text rest : List ℕ) (why : Option K) → 0 < length text → item text ≡ answers (Err why) rest
+      → behind_items front (items_at item text) ≡ answers (Err why) rest
+  items_stop front [] rest why some e = absurd (omega arith)
+  items_stop front (byte ∷ text) rest why some e =
+      ap (behind_items front) (items_step item moves byte text ∙ then_stops item (λ x. items_at item >>= λ items. done (x ∷ items)) (byte ∷ text) rest why e)
+
+  -- one more item
+  pub items_more : (front : List A) (text rest : List ℕ) (x : A) → 0 < length text → item text ≡ answers (Ok x) rest
+      → behind_items front (items_at item text) ≡ behind_items (front ++ (x ∷ [])) (items_at item rest)
+  items_more front [] rest x some e = absurd (omega arith)
+  items_more front (byte ∷ text) rest x some e =
+      ap (behind_items front) (items_step item moves byte text ∙ then_next item (λ y. items_at item >>= λ items. done (y ∷ items)) (byte ∷ text) rest x (go_on (items_at item rest) (λ items. done (x ∷ items))) e refl)
+      ∙ go (items_at item rest)
+    where
+      go : (answer : Answer K (List A)) → behind_items front (go_on answer (λ items. done (x ∷ items))) ≡ behind_items (front ++ (x ∷ [])) answer
+      go (answers (Ok items) left) = ap (λ (l : List A). answers (Ok l) left) (sym (append_assoc front (x ∷ []) items))
+      go (answers (Err why) left) = refl
