@@ -2,3 +2,4 @@ pub mod Forms
 pub mod ExactForms
 pub mod Laws
 pub mod Words
+pub mod Refusing

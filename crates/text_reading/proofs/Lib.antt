@@ -8,3 +8,4 @@ pub mod WholeTexts
 pub mod Languages
 pub mod Exact
 pub mod Stops
+pub mod OnePlace

@@ -35,7 +35,7 @@ pub data Parts {K A B : Type 0} (reader : Reader K A) (next : A → Reader K B) 
   went_on : (x : A) (before after : List ℕ) → taken ≡ before ++ after → reader (before ++ (after ++ rest)) ≡ answers (Ok x) (after ++ rest)
       → next x (after ++ rest) ≡ answers out rest → Parts reader next taken rest out
 
-cancel : (a b rest : List ℕ) → a ++ rest ≡ b ++ rest → a ≡ b
+pub cancel : (a b rest : List ℕ) → a ++ rest ≡ b ++ rest → a ≡ b
 cancel [] b rest same = sym (not_longer b rest (sym same))
 cancel (x ∷ a) [] rest same = not_longer (x ∷ a) rest same
 cancel (x ∷ a) (y ∷ b) rest same =
