@@ -6,6 +6,9 @@
 
 mod assembling;
 mod fault;
+mod printing;
 mod reading;
 
+pub use assembling::assemble;
 pub use fault::{AsmFault, NumberKind};
+pub use printing::print;
