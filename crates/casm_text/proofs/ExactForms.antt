@@ -40,10 +40,10 @@ register_exact : IsExact register_at Register
 unfolding register_at
 register_exact =
     exact_as
-        (exact_branch 97 (exact_last (λ _. regs.Ap) (exact_word (codes "ap"))) (exact_last (λ _. regs.Fp) (exact_word (codes "fp")))
-            (λ reg text rest h. word_begins 97 97 (112 ∷ []) text rest h.2))
-        (λ reg text rest h. elim h [ inl w ↦ subst (λ r. Register r text rest) w.1 w.2 | inr w ↦ subst (λ r. Register r text rest) w.1.1 w.1.2 ])
-        register_back
+    (exact_branch 97 (exact_last (λ _. regs.Ap) (exact_word (codes "ap"))) (exact_last (λ _. regs.Fp) (exact_word (codes "fp")))
+    (λ reg text rest h. word_begins 97 97 (112 ∷ []) text rest h.2))
+    (λ reg text rest h. elim h [ inl w ↦ subst (λ r. Register r text rest) w.1 w.2 | inr w ↦ subst (λ r. Register r text rest) w.1.1 w.1.2 ])
+    register_back
 
 base_back : (rel : Bool) (text rest : List ℕ) → Base rel text rest → Or 114 (Made (λ (unit : Unit {0}). true) (λ _. Word (codes "rel"))) (Made (λ (unit : Unit {0}). false) (λ _. Word (codes "abs"))) rel text rest
 base_back true text rest h = inl (tt, refl, h)
@@ -53,14 +53,14 @@ base_exact : IsExact base_at Base
 unfolding base_at
 base_exact =
     exact_as
-        (exact_branch 114 (exact_last (λ _. true) (exact_word (codes "rel"))) (exact_last (λ _. false) (exact_word (codes "abs")))
-            (λ rel text rest h. word_begins 114 114 (101 ∷ 108 ∷ []) text rest h.2))
-        (λ rel text rest h. elim h [ inl w ↦ subst (λ r. Base r text rest) w.1 w.2 | inr w ↦ subst (λ r. Base r text rest) w.1.1 w.1.2 ])
-        base_back
+    (exact_branch 114 (exact_last (λ _. true) (exact_word (codes "rel"))) (exact_last (λ _. false) (exact_word (codes "abs")))
+    (λ rel text rest h. word_begins 114 114 (101 ∷ 108 ∷ []) text rest h.2))
+    (λ rel text rest h. elim h [ inl w ↦ subst (λ r. Base r text rest) w.1 w.2 | inr w ↦ subst (λ r. Base r text rest) w.1.1 w.1.2 ])
+    base_back
 
 ending_back : (inc : Bool) (text rest : List ℕ) → Ending inc text rest
     → Or 44 (Then (λ (unit : Unit {0}). Mark (codes ",")) (λ _. Then (λ (unit : Unit {0}). Word (codes "ap")) (λ _. Then (λ (unit : Unit {0}). Mark (codes "++")) (λ _. Made (λ (unit : Unit {0}). true) (λ _. Mark (codes ";"))))))
-        (Made (λ (unit : Unit {0}). false) (λ _. Mark (codes ";"))) inc text rest
+    (Made (λ (unit : Unit {0}). false) (λ _. Mark (codes ";"))) inc text rest
 ending_back true text rest h = inl (tt, h.0, h.1, (tt, h.2.0, h.2.1, (tt, h.2.2.0, h.2.2.1, (tt, refl, h.2.2.2))))
 ending_back false text rest h = inr (mark_begins 59 44 [] text rest h, (tt, refl, h))
 
@@ -68,15 +68,15 @@ ending_exact : IsExact ending_at Ending
 unfolding ending_at
 ending_exact =
     exact_as
-        (exact_branch 44
-            (exact_then (exact_mark (codes ",")) (λ _. exact_then (exact_word (codes "ap")) (λ _. exact_then (exact_mark (codes "++")) (λ _. exact_last (λ _. true) (exact_mark (codes ";"))))))
-            (exact_last (λ _. false) (exact_mark (codes ";")))
-            (λ inc text rest h. mark_begins 44 44 [] text h.1 h.2))
-        (λ inc text rest h. elim h [
-          | inl w ↦ subst (λ r. Ending r text rest) w.3.3.3.1 (w.1, w.2, (w.3.1, w.3.2, (w.3.3.1, w.3.3.2, w.3.3.3.2)))
-          | inr w ↦ subst (λ r. Ending r text rest) w.1.1 w.1.2
-        ])
-        ending_back
+    (exact_branch 44
+    (exact_then (exact_mark (codes ",")) (λ _. exact_then (exact_word (codes "ap")) (λ _. exact_then (exact_mark (codes "++")) (λ _. exact_last (λ _. true) (exact_mark (codes ";"))))))
+    (exact_last (λ _. false) (exact_mark (codes ";")))
+    (λ inc text rest h. mark_begins 44 44 [] text h.1 h.2))
+    (λ inc text rest h. elim h [
+      | inl w ↦ subst (λ r. Ending r text rest) w.3.3.3.1 (w.1, w.2, (w.3.1, w.3.2, (w.3.3.1, w.3.3.2, w.3.3.3.2)))
+      | inr w ↦ subst (λ r. Ending r text rest) w.1.1 w.1.2
+    ])
+    ending_back
 
 -- an instruction ends with `,` or `;`
 ending_begins : (inc : Bool) (other : ℕ) (text rest : List ℕ) → eqb 44 other ≡ false → eqb 59 other ≡ false → Ending inc text rest → begins other text ≡ false
@@ -103,11 +103,11 @@ module _ (limits : Limits) (wide : AreWide limits) where
   unfolding offset_at
   offset_exact =
       exact_as
-          (exact_branch 45
-              (exact_then (exact_mark (codes "-")) (λ _. exact_last negative (exact_positive (option_map suc limits.offset) kinds.Offset (wide_suc limits.offset wide.offset))))
-              (exact_last pos (exact_number limits.offset kinds.Offset wide.offset))
-              (λ z text rest h. mark_begins 45 45 [] text h.1 h.2))
-          offset_there offset_back
+      (exact_branch 45
+      (exact_then (exact_mark (codes "-")) (λ _. exact_last negative (exact_positive (option_map suc limits.offset) kinds.Offset (wide_suc limits.offset wide.offset))))
+      (exact_last pos (exact_number limits.offset kinds.Offset wide.offset))
+      (λ z text rest h. mark_begins 45 45 [] text h.1 h.2))
+      offset_there offset_back
 
   abbrev Negative : ℕ → Form
   Negative = Then (λ (unit : Unit {0}). Mark (codes "-")) (λ _. Made (λ n. modulus - n) (λ n text rest. (n ≢ 0) × Number limits.imm n text rest))
@@ -120,12 +120,12 @@ module _ (limits : Limits) (wide : AreWide limits) where
   unfolding imm_at
   imm_exact =
       exact_as
-          (exact_branch 45
-              (exact_then (exact_mark (codes "-")) (λ _. exact_last (λ n. modulus - n) (exact_positive limits.imm kinds.Imm wide.imm)))
-              (exact_number limits.imm kinds.Imm wide.imm)
-              (λ z text rest h. mark_begins 45 45 [] text h.1 h.2))
-          (λ n text rest h. elim h [ inl w ↦ inr (w.3.0, w.3.2.0, sym w.3.1, (w.1, w.2, w.3.2.1)) | inr w ↦ inl w.1 ])
-          imm_back
+      (exact_branch 45
+      (exact_then (exact_mark (codes "-")) (λ _. exact_last (λ n. modulus - n) (exact_positive limits.imm kinds.Imm wide.imm)))
+      (exact_number limits.imm kinds.Imm wide.imm)
+      (λ z text rest h. mark_begins 45 45 [] text h.1 h.2))
+      (λ n text rest h. elim h [ inl w ↦ inr (w.3.0, w.3.2.0, sym w.3.1, (w.1, w.2, w.3.2.1)) | inr w ↦ inl w.1 ])
+      imm_back
 
   -- an immediate begins with `-` or a digit
   imm_begins : (n other : ℕ) (text rest : List ℕ) → eqb 45 other ≡ false → is_digit other ≡ false → Imm limits n text rest → begins other text ≡ false
@@ -139,9 +139,9 @@ module _ (limits : Limits) (wide : AreWide limits) where
   unfolding inner_at
   inner_exact =
       exact_as
-          (exact_then (exact_mark (codes "+")) (λ _. exact_then offset_exact (λ z. exact_last (λ _. z) (exact_mark (codes "]")))))
-          (λ z text rest h. subst (λ o. Inner o text rest) h.3.3.1 (h.1, h.2, (h.3.1, h.3.2, h.3.3.2)))
-          (λ z text rest h. (tt, h.0, h.1, (z, h.2.0, h.2.1, (tt, refl, h.2.2))))
+      (exact_then (exact_mark (codes "+")) (λ _. exact_then offset_exact (λ z. exact_last (λ _. z) (exact_mark (codes "]")))))
+      (λ z text rest h. subst (λ o. Inner o text rest) h.3.3.1 (h.1, h.2, (h.3.1, h.3.2, h.3.3.2)))
+      (λ z text rest h. (tt, h.0, h.1, (z, h.2.0, h.2.1, (tt, refl, h.2.2))))
 
   abbrev CellRest : CellRef → Form
   CellRest c = Register c.reg then Inner c.off
@@ -150,17 +150,17 @@ module _ (limits : Limits) (wide : AreWide limits) where
   unfolding cell_rest_at
   cell_rest_exact =
       exact_as
-          (exact_then register_exact (λ reg. exact_last (λ z. record { reg = reg; off = z }) inner_exact))
-          (λ c text rest h. subst (λ d. CellRest d text rest) h.3.1 (h.1, h.2, h.3.2))
-          (λ c text rest h. (c.reg, h.0, h.1, (c.off, refl, h.2)))
+      (exact_then register_exact (λ reg. exact_last (λ z. record { reg = reg; off = z }) inner_exact))
+      (λ c text rest h. subst (λ d. CellRest d text rest) h.3.1 (h.1, h.2, h.3.2))
+      (λ c text rest h. (c.reg, h.0, h.1, (c.off, refl, h.2)))
 
   cell_exact : IsExact (cell_at limits) (Cell limits)
   unfolding cell_at
   cell_exact =
       exact_as
-          (exact_then (exact_mark (codes "[")) (λ _. cell_rest_exact))
-          (λ c text rest h. (h.1, h.2, h.3))
-          (λ c text rest h. (tt, h.0, h.1, h.2))
+      (exact_then (exact_mark (codes "[")) (λ _. cell_rest_exact))
+      (λ c text rest h. (h.1, h.2, h.3))
+      (λ c text rest h. (tt, h.0, h.1, h.2))
 
   operand_back : (o : Operand) (text rest : List ℕ) → OperandText limits o text rest → Or 91 (Made operands.Cell (Cell limits)) (Made operands.Imm (Imm limits)) o text rest
   operand_back (operands.Cell c) text rest h = inl (c, refl, h)
@@ -170,9 +170,9 @@ module _ (limits : Limits) (wide : AreWide limits) where
   unfolding operand_at
   operand_exact =
       exact_as
-          (exact_branch 91 (exact_last operands.Cell cell_exact) (exact_last operands.Imm imm_exact) (λ o text rest h. mark_begins 91 91 [] text h.2.0 h.2.1))
-          (λ o text rest h. elim h [ inl w ↦ subst (λ p. OperandText limits p text rest) w.1 w.2 | inr w ↦ subst (λ p. OperandText limits p text rest) w.1.1 w.1.2 ])
-          operand_back
+      (exact_branch 91 (exact_last operands.Cell cell_exact) (exact_last operands.Imm imm_exact) (λ o text rest h. mark_begins 91 91 [] text h.2.0 h.2.1))
+      (λ o text rest h. elim h [ inl w ↦ subst (λ p. OperandText limits p text rest) w.1 w.2 | inr w ↦ subst (λ p. OperandText limits p text rest) w.1.1 w.1.2 ])
+      operand_back
 
   -- ---- results
 
@@ -191,16 +191,16 @@ module _ (limits : Limits) (wide : AreWide limits) where
   abbrev BehindCell : CellRef → Res → Form
   BehindCell c =
       Or 43 (Then (λ (unit : Unit {0}). Mark (codes "+")) (λ _. Made (results.Add c) (OperandText limits)))
-          (Or 42 (Then (λ (unit : Unit {0}). Mark (codes "*")) (λ _. Made (results.Mul c) (OperandText limits)))
-              (λ res text rest. (results.Cell c ≡ res) × (text ≡ rest)))
+      (Or 42 (Then (λ (unit : Unit {0}). Mark (codes "*")) (λ _. Made (results.Mul c) (OperandText limits)))
+      (λ res text rest. (results.Cell c ≡ res) × (text ≡ rest)))
 
   behind_cell_exact : (c : CellRef) → IsExact (behind_cell_at limits c) (BehindCell c)
   unfolding behind_cell_at
   behind_cell_exact c =
       exact_branch 43 (exact_then (exact_mark (codes "+")) (λ _. exact_last (results.Add c) operand_exact))
-          (exact_branch 42 (exact_then (exact_mark (codes "*")) (λ _. exact_last (results.Mul c) operand_exact)) (exact_done (results.Cell c))
-              (λ res text rest h. mark_begins 42 42 [] text h.1 h.2))
-          (λ res text rest h. mark_begins 43 43 [] text h.1 h.2)
+      (exact_branch 42 (exact_then (exact_mark (codes "*")) (λ _. exact_last (results.Mul c) operand_exact)) (exact_done (results.Cell c))
+      (λ res text rest h. mark_begins 42 42 [] text h.1 h.2))
+      (λ res text rest h. mark_begins 43 43 [] text h.1 h.2)
 
   abbrev DoubleRes : Res → Form
   DoubleRes = Then (Cell limits) (λ c. Made (results.Double c) Inner)
@@ -212,7 +212,7 @@ module _ (limits : Limits) (wide : AreWide limits) where
   unfolding bracket_at double_at
   bracket_exact =
       exact_branch 91 (exact_then cell_exact (λ c. exact_last (results.Double c) inner_exact)) (exact_then cell_rest_exact behind_cell_exact)
-          (λ res text rest h. mark_begins 91 91 [] text h.2.0 h.2.1)
+      (λ res text rest h. mark_begins 91 91 [] text h.2.0 h.2.1)
 
   abbrev AnyRes : Res → Form
   AnyRes = Or 91 (Then (λ (unit : Unit {0}). Mark (codes "[")) (λ _. Bracket)) (Made results.Imm (Imm limits))
@@ -222,7 +222,7 @@ module _ (limits : Limits) (wide : AreWide limits) where
   behind_there c res text between rest cell (inr (plus, inl w)) = subst (λ r. WholeRes r text rest) w.3.1 ((between, cell, (w.1, w.2, w.3.2)), tt)
   behind_there c res text between rest cell (inr (plus, inr (times, (is, same)))) =
       subst (λ r. WholeRes r text rest) is
-          (subst (λ (t : List ℕ). WholeRes (results.Cell c) text t) same (cell, (plus, times)))
+      (subst (λ (t : List ℕ). WholeRes (results.Cell c) text t) same (cell, (plus, times)))
 
   bracket_there : (res : Res) (text between rest : List ℕ) → Mark (codes "[") text between → Bracket res between rest → WholeRes res text rest
   bracket_there res text between rest mark (inl w) = subst (λ r. WholeRes r text rest) w.3.1 ((between, mark, (w.1, w.2, w.3.2)), tt)
@@ -250,15 +250,27 @@ module _ (limits : Limits) (wide : AreWide limits) where
       inl (tt, cell.0, cell.1, inr (rest_begins c cell.0 h.0.0 cell.2, (c, h.0.0, cell.2, inl (tt, h.0.2.0, h.0.2.1, (o, refl, h.0.2.2)))))
   res_back (results.Mul c o) text rest h =
       let cell = h.0.1 in
-      inl (tt, cell.0, cell.1, inr (rest_begins c cell.0 h.0.0 cell.2, (c, h.0.0, cell.2,
-          inr (mark_begins 42 43 [] h.0.0 h.0.2.0 h.0.2.1, inl (tt, h.0.2.0, h.0.2.1, (o, refl, h.0.2.2))))))
+      inl (
+        tt,
+        cell.0,
+        cell.1,
+        inr (
+          rest_begins c cell.0 h.0.0 cell.2,
+          (
+            c,
+            h.0.0,
+            cell.2,
+            inr (mark_begins 42 43 [] h.0.0 h.0.2.0 h.0.2.1, inl (tt, h.0.2.0, h.0.2.1, (o, refl, h.0.2.2))),
+          ),
+        ),
+      )
 
   res_exact : IsExact (res_at limits) WholeRes
   unfolding res_at
   res_exact =
       exact_as
-          (exact_branch 91 (exact_then (exact_mark (codes "[")) (λ _. bracket_exact)) (exact_last results.Imm imm_exact) (λ res text rest h. mark_begins 91 91 [] text h.1 h.2))
-          res_there res_back
+      (exact_branch 91 (exact_then (exact_mark (codes "[")) (λ _. bracket_exact)) (exact_last results.Imm imm_exact) (λ res text rest h. mark_begins 91 91 [] text h.1 h.2))
+      res_there res_back
 
   -- what doesn't begin with `+` or `*` leaves a result whole
   res_whole : (res : Res) (rest : List ℕ) → begins 43 rest ≡ false → begins 42 rest ≡ false → NoOperator res rest
@@ -276,7 +288,7 @@ module _ (limits : Limits) (wide : AreWide limits) where
   abbrev JnzEnd : Operand → Instr → Form
   JnzEnd to =
       Then (λ (unit : Unit {0}). Word (codes "if")) (λ _. Then (Cell limits) (λ cond. Then (λ (unit : Unit {0}). Mark (codes "!=")) (λ _.
-          Then (λ (unit : Unit {0}). Mark (codes "0")) (λ _. Made (instrs.Jnz cond to) Ending))))
+      Then (λ (unit : Unit {0}). Mark (codes "0")) (λ _. Made (instrs.Jnz cond to) Ending))))
 
   abbrev JumpEnd : Bool → Res → Instr → Form
   JumpEnd rel to = Made (instrs.Jump rel to) Ending
@@ -291,8 +303,8 @@ module _ (limits : Limits) (wide : AreWide limits) where
   abbrev JumpText : Instr → Form
   JumpText =
       Then (λ (unit : Unit {0}). Word (codes "jmp")) (λ _.
-          Or 114 (Then (λ (unit : Unit {0}). Word (codes "rel")) (λ _. Then WholeRes RelativeEnd))
-              (Then (λ (unit : Unit {0}). Word (codes "abs")) (λ _. Then WholeRes (JumpEnd false))))
+      Or 114 (Then (λ (unit : Unit {0}). Word (codes "rel")) (λ _. Then WholeRes RelativeEnd))
+      (Then (λ (unit : Unit {0}). Word (codes "abs")) (λ _. Then WholeRes (JumpEnd false))))
 
   abbrev CallText : Instr → Form
   CallText =
@@ -309,7 +321,7 @@ module _ (limits : Limits) (wide : AreWide limits) where
   unfolding jnz_at
   jnz_exact to =
       exact_then (exact_word (codes "if")) (λ _. exact_then cell_exact (λ cond. exact_then (exact_mark (codes "!=")) (λ _.
-          exact_then (exact_mark (codes "0")) (λ _. exact_last (instrs.Jnz cond to) ending_exact))))
+      exact_then (exact_mark (codes "0")) (λ _. exact_last (instrs.Jnz cond to) ending_exact))))
 
   jump_end_exact : (rel : Bool) (to : Res) → IsExact (jump_end_at rel to) (JumpEnd rel to)
   unfolding jump_end_at
@@ -331,9 +343,9 @@ module _ (limits : Limits) (wide : AreWide limits) where
   unfolding jump_at
   jump_exact =
       exact_then (exact_word (codes "jmp")) (λ _.
-          exact_branch 114 (exact_then (exact_word (codes "rel")) (λ _. exact_then res_exact relative_end_exact))
-              (exact_then (exact_word (codes "abs")) (λ _. exact_then res_exact (jump_end_exact false)))
-              (λ i text rest h. word_begins 114 114 (101 ∷ 108 ∷ []) text h.1 h.2))
+      exact_branch 114 (exact_then (exact_word (codes "rel")) (λ _. exact_then res_exact relative_end_exact))
+      (exact_then (exact_word (codes "abs")) (λ _. exact_then res_exact (jump_end_exact false)))
+      (λ i text rest h. word_begins 114 114 (101 ∷ 108 ∷ []) text h.1 h.2))
 
   call_exact : IsExact (call_at limits) CallText
   unfolding call_at
@@ -358,7 +370,7 @@ module _ (limits : Limits) (wide : AreWide limits) where
       let none = differs.3 in
       let end = none.3 in
       subst (λ j. InstrText limits j text rest) end.1
-          (behind_jmp, jmp, (behind_rel, rel, (behind_to, operand, (w.1, w.2, (cond.1, cond.2, (differs.1, differs.2, (none.1, none.2, end.2)))))))
+      (behind_jmp, jmp, (behind_rel, rel, (behind_to, operand, (w.1, w.2, (cond.1, cond.2, (differs.1, differs.2, (none.1, none.2, end.2)))))))
 
   jump_there : (i : Instr) (is_rel : Bool) (to : Res) (text behind_jmp behind_base behind_to rest : List ℕ) → Word (codes "jmp") text behind_jmp → Base is_rel behind_jmp behind_base
       → ResText limits to behind_base behind_to → JumpEnd is_rel to i behind_to rest → InstrText limits i text rest
@@ -379,7 +391,7 @@ module _ (limits : Limits) (wide : AreWide limits) where
   any_jump_there i text rest w = go w.3
     where
       go : Or 114 (Then (λ (unit : Unit {0}). Word (codes "rel")) (λ _. Then WholeRes RelativeEnd))
-              (Then (λ (unit : Unit {0}). Word (codes "abs")) (λ _. Then WholeRes (JumpEnd false))) i w.1 rest → InstrText limits i text rest
+          (Then (λ (unit : Unit {0}). Word (codes "abs")) (λ _. Then WholeRes (JumpEnd false))) i w.1 rest → InstrText limits i text rest
       go (inl v) = relative_there i v.3.0 text w.1 v.1 v.3.1 rest w.2 v.2 v.3.2.0 v.3.3
       go (inr v) = let u = v.1 in jump_there i false u.3.0 text w.1 u.1 u.3.1 rest w.2 u.2 u.3.2.0 u.3.3
 
@@ -419,39 +431,95 @@ module _ (limits : Limits) (wide : AreWide limits) where
   instr_back (instrs.AssertEq dst res inc) text rest (a, cell, (b, equals, (d, result, ending))) =
       inl (dst, a, cell, (tt, b, equals, (res, d, res_ends res inc b d rest result ending, (inc, refl, ending))))
   instr_back (instrs.Jump true to inc) text rest (a, jmp, (b, rel, (d, result, ending))) =
-      inr (word_begins 106 91 (109 ∷ 112 ∷ []) text a jmp,
-          inl (tt, a, jmp, inl (tt, b, rel, (to, d, res_ends to inc b d rest result ending, relative_back to inc d rest ending))))
+      inr (
+        word_begins 106 91 (109 ∷ 112 ∷ []) text a jmp,
+        inl (tt, a, jmp, inl (tt, b, rel, (to, d, res_ends to inc b d rest result ending, relative_back to inc d rest ending))),
+      )
   instr_back (instrs.Jump false to inc) text rest (a, jmp, (b, base, (d, result, ending))) =
-      inr (word_begins 106 91 (109 ∷ 112 ∷ []) text a jmp,
-          inl (tt, a, jmp, inr (word_begins 97 114 (98 ∷ 115 ∷ []) a b base, (tt, b, base, (to, d, res_ends to inc b d rest result ending, (inc, refl, ending))))))
+      inr (
+        word_begins 106 91 (109 ∷ 112 ∷ []) text a jmp,
+        inl (tt, a, jmp, inr (word_begins 97 114 (98 ∷ 115 ∷ []) a b base, (tt, b, base, (to, d, res_ends to inc b d rest result ending, (inc, refl, ending))))),
+      )
   instr_back (instrs.Jnz cond (operands.Cell c) inc) text rest (a, jmp, (b, rel, (d, to, (f, when, (g, cell, (h, differs, (k, none, ending))))))) =
-      inr (word_begins 106 91 (109 ∷ 112 ∷ []) text a jmp,
-          inl (tt, a, jmp, inl (tt, b, rel, (results.Cell c, d,
+      inr (
+        word_begins 106 91 (109 ∷ 112 ∷ []) text a jmp,
+        inl (
+          tt,
+          a,
+          jmp,
+          inl (
+            tt,
+            b,
+            rel,
+            (
+              results.Cell c,
+              d,
               (to, (word_begins 105 43 (102 ∷ []) d f when, word_begins 105 42 (102 ∷ []) d f when)),
-              inl (tt, f, when, (cond, g, cell, (tt, h, differs, (tt, k, none, (inc, refl, ending)))))))))
+              inl (tt, f, when, (cond, g, cell, (tt, h, differs, (tt, k, none, (inc, refl, ending))))),
+            ),
+          ),
+        ),
+      )
   instr_back (instrs.Jnz cond (operands.Imm n) inc) text rest (a, jmp, (b, rel, (d, to, (f, when, (g, cell, (h, differs, (k, none, ending))))))) =
-      inr (word_begins 106 91 (109 ∷ 112 ∷ []) text a jmp,
-          inl (tt, a, jmp, inl (tt, b, rel, (results.Imm n, d, (to, tt),
-              inl (tt, f, when, (cond, g, cell, (tt, h, differs, (tt, k, none, (inc, refl, ending)))))))))
+      inr (
+        word_begins 106 91 (109 ∷ 112 ∷ []) text a jmp,
+        inl (
+          tt,
+          a,
+          jmp,
+          inl (
+            tt,
+            b,
+            rel,
+            (
+              results.Imm n,
+              d,
+              (to, tt),
+              inl (tt, f, when, (cond, g, cell, (tt, h, differs, (tt, k, none, (inc, refl, ending))))),
+            ),
+          ),
+        ),
+      )
   instr_back (instrs.Call rel to) text rest (a, call, (b, base, (d, operand, mark))) =
-      inr (word_begins 99 91 (97 ∷ 108 ∷ 108 ∷ []) text a call, inr (word_begins 99 106 (97 ∷ 108 ∷ 108 ∷ []) text a call,
-          inl (tt, a, call, (rel, b, base, (to, d, operand, (tt, refl, mark))))))
+      inr (
+        word_begins 99 91 (97 ∷ 108 ∷ 108 ∷ []) text a call,
+        inr (
+          word_begins 99 106 (97 ∷ 108 ∷ 108 ∷ []) text a call,
+          inl (tt, a, call, (rel, b, base, (to, d, operand, (tt, refl, mark)))),
+        ),
+      )
   instr_back (instrs.AddAp by) text rest (a, word, (b, moves, (d, result, mark))) =
-      inr (word_begins 97 91 (112 ∷ []) text a word, inr (word_begins 97 106 (112 ∷ []) text a word, inr (word_begins 97 99 (112 ∷ []) text a word,
-          inl (tt, a, word, (tt, b, moves, (by, d, (result, res_whole by d (mark_begins 59 43 [] d rest mark) (mark_begins 59 42 [] d rest mark)), (tt, refl, mark)))))))
+      inr (
+        word_begins 97 91 (112 ∷ []) text a word,
+        inr (
+          word_begins 97 106 (112 ∷ []) text a word,
+          inr (
+            word_begins 97 99 (112 ∷ []) text a word,
+            inl (tt, a, word, (tt, b, moves, (by, d, (result, res_whole by d (mark_begins 59 43 [] d rest mark) (mark_begins 59 42 [] d rest mark)), (tt, refl, mark)))),
+          ),
+        ),
+      )
   instr_back instrs.Ret text rest (a, word, mark) =
-      inr (word_begins 114 91 (101 ∷ 116 ∷ []) text a word, inr (word_begins 114 106 (101 ∷ 116 ∷ []) text a word, inr (word_begins 114 99 (101 ∷ 116 ∷ []) text a word,
-          inr (word_begins 114 97 (101 ∷ 116 ∷ []) text a word, (tt, a, word, (tt, refl, mark))))))
+      inr (
+        word_begins 114 91 (101 ∷ 116 ∷ []) text a word,
+        inr (
+          word_begins 114 106 (101 ∷ 116 ∷ []) text a word,
+          inr (
+            word_begins 114 99 (101 ∷ 116 ∷ []) text a word,
+            inr (word_begins 114 97 (101 ∷ 116 ∷ []) text a word, (tt, a, word, (tt, refl, mark))),
+          ),
+        ),
+      )
 
   pub instr_exact : IsExact (instr_at limits) (InstrText limits)
   unfolding instr_at
   instr_exact =
       exact_as
-          (exact_branch 91 assert_exact
-              (exact_branch 106 jump_exact
-                  (exact_branch 99 call_exact
-                      (exact_branch 97 add_ap_exact ret_exact (λ i text rest h. word_begins 97 97 (112 ∷ []) text h.1 h.2))
-                      (λ i text rest h. word_begins 99 99 (97 ∷ 108 ∷ 108 ∷ []) text h.1 h.2))
-                  (λ i text rest h. word_begins 106 106 (109 ∷ 112 ∷ []) text h.1 h.2))
-              (λ i text rest h. mark_begins 91 91 [] text h.2.0 h.2.1))
-          instr_there instr_back
+      (exact_branch 91 assert_exact
+      (exact_branch 106 jump_exact
+      (exact_branch 99 call_exact
+      (exact_branch 97 add_ap_exact ret_exact (λ i text rest h. word_begins 97 97 (112 ∷ []) text h.1 h.2))
+      (λ i text rest h. word_begins 99 99 (97 ∷ 108 ∷ 108 ∷ []) text h.1 h.2))
+      (λ i text rest h. word_begins 106 106 (109 ∷ 112 ∷ []) text h.1 h.2))
+      (λ i text rest h. mark_begins 91 91 [] text h.2.0 h.2.1))
+      instr_there instr_back

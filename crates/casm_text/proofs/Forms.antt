@@ -23,26 +23,26 @@ module _ (kind : NumberKind) where
   unfolding register_at
   register =
       from_branch 97 102 kind refl
-          (from_then kind 97 (from_word kind 97 (112 ∷ []) refl) (λ _. limited_done kind regs.Ap))
-          (from_then kind 102 (from_word kind 102 (112 ∷ []) refl) (λ _. limited_done kind regs.Fp))
+      (from_then kind 97 (from_word kind 97 (112 ∷ []) refl) (λ _. limited_done kind regs.Ap))
+      (from_then kind 102 (from_word kind 102 (112 ∷ []) refl) (λ _. limited_done kind regs.Fp))
 
   ending : LimitedFrom 44 kind ending_at ending_at
   unfolding ending_at
   ending =
       from_branch 44 59 kind refl
-          (from_then kind 44 (from_mark kind 44 [] refl) (λ _.
-              limited_then kind (from_word kind 97 (112 ∷ []) refl).limited (λ _.
-              limited_then kind (from_mark kind 43 (43 ∷ []) refl).limited (λ _.
-              limited_then kind (from_mark kind 59 [] refl).limited (λ _. limited_done kind true)))))
-          (from_then kind 59 (from_mark kind 59 [] refl) (λ _. limited_done kind false))
+      (from_then kind 44 (from_mark kind 44 [] refl) (λ _.
+      limited_then kind (from_word kind 97 (112 ∷ []) refl).limited (λ _.
+      limited_then kind (from_mark kind 43 (43 ∷ []) refl).limited (λ _.
+      limited_then kind (from_mark kind 59 [] refl).limited (λ _. limited_done kind true)))))
+      (from_then kind 59 (from_mark kind 59 [] refl) (λ _. limited_done kind false))
 
   -- `rel` or `abs`
   base : LimitedFrom 114 kind base_at base_at
   unfolding base_at
   base =
       from_branch 114 97 kind refl
-          (from_then kind 114 (from_word kind 114 (101 ∷ 108 ∷ []) refl) (λ _. limited_done kind true))
-          (from_then kind 97 (from_word kind 97 (98 ∷ 115 ∷ []) refl) (λ _. limited_done kind false))
+      (from_then kind 114 (from_word kind 114 (101 ∷ 108 ∷ []) refl) (λ _. limited_done kind true))
+      (from_then kind 97 (from_word kind 97 (98 ∷ 115 ∷ []) refl) (λ _. limited_done kind false))
 
 imm_differs : kinds.Imm ≢ kinds.Offset
 imm_differs e = cc
@@ -68,21 +68,21 @@ module _ (kind : NumberKind) (limits : Limits) where
   unfolding offset_at
   offset =
       limited_branch 45 kind refl
-          (from_then kind 45 (from_mark kind 45 [] refl) (λ _. limited_then kind (negative_offset limits kind) (λ n. limited_done kind (negative n))))
-          (limited_then kind (offset_number limits kind) (λ n. limited_done kind (pos n)))
+      (from_then kind 45 (from_mark kind 45 [] refl) (λ _. limited_then kind (negative_offset limits kind) (λ n. limited_done kind (negative n))))
+      (limited_then kind (offset_number limits kind) (λ n. limited_done kind (pos n)))
 
   imm : Limited kind (imm_at limits) (imm_at (without kind limits))
   unfolding imm_at
   imm =
       limited_branch 45 kind refl
-          (from_then kind 45 (from_mark kind 45 [] refl) (λ _. limited_then kind (imm_number limits false kind) (λ n. limited_done kind (modulus - n))))
-          (imm_number limits true kind)
+      (from_then kind 45 (from_mark kind 45 [] refl) (λ _. limited_then kind (imm_number limits false kind) (λ n. limited_done kind (modulus - n))))
+      (imm_number limits true kind)
 
   inner : LimitedFrom 43 kind (inner_at limits) (inner_at (without kind limits))
   unfolding inner_at
   inner =
       from_then kind 43 (from_mark kind 43 [] refl) (λ _.
-          limited_then kind offset (λ n. limited_then kind (from_mark kind 93 [] refl).limited (λ _. limited_done kind n)))
+      limited_then kind offset (λ n. limited_then kind (from_mark kind 93 [] refl).limited (λ _. limited_done kind n)))
 
   cell_rest : LimitedFrom 97 kind (cell_rest_at limits) (cell_rest_at (without kind limits))
   unfolding cell_rest_at
@@ -96,17 +96,17 @@ module _ (kind : NumberKind) (limits : Limits) where
   unfolding operand_at
   operand =
       limited_branch 91 kind refl
-          (from_then kind 91 cell (λ c. limited_done kind (operands.Cell c)))
-          (limited_then kind imm (λ n. limited_done kind (operands.Imm n)))
+      (from_then kind 91 cell (λ c. limited_done kind (operands.Cell c)))
+      (limited_then kind imm (λ n. limited_done kind (operands.Imm n)))
 
   behind_cell : (c : CellRef) → Limited kind (behind_cell_at limits c) (behind_cell_at (without kind limits) c)
   unfolding behind_cell_at
   behind_cell c =
       limited_branch 43 kind refl
-          (from_then kind 43 (from_mark kind 43 [] refl) (λ _. limited_then kind operand (λ o. limited_done kind (results.Add c o))))
-          (limited_branch 42 kind refl
-              (from_then kind 42 (from_mark kind 42 [] refl) (λ _. limited_then kind operand (λ o. limited_done kind (results.Mul c o))))
-              (limited_done kind (results.Cell c)))
+      (from_then kind 43 (from_mark kind 43 [] refl) (λ _. limited_then kind operand (λ o. limited_done kind (results.Add c o))))
+      (limited_branch 42 kind refl
+      (from_then kind 42 (from_mark kind 42 [] refl) (λ _. limited_then kind operand (λ o. limited_done kind (results.Mul c o))))
+      (limited_done kind (results.Cell c)))
 
   double : LimitedFrom 91 kind (double_at limits) (double_at (without kind limits))
   unfolding double_at
@@ -120,21 +120,21 @@ module _ (kind : NumberKind) (limits : Limits) where
   unfolding res_at
   res =
       limited_branch 91 kind refl
-          (from_then kind 91 (from_mark kind 91 [] refl) (λ _. bracket.limited))
-          (limited_then kind imm (λ n. limited_done kind (results.Imm n)))
+      (from_then kind 91 (from_mark kind 91 [] refl) (λ _. bracket.limited))
+      (limited_then kind imm (λ n. limited_done kind (results.Imm n)))
 
   assertion : LimitedFrom 91 kind (assert_at limits) (assert_at (without kind limits))
   unfolding assert_at
   assertion =
       from_then kind 91 cell (λ dst. limited_then kind (from_mark kind 61 [] refl).limited (λ _.
-          limited_then kind res (λ r. limited_then kind (ending kind).limited (λ inc. limited_done kind (instrs.AssertEq dst r inc)))))
+      limited_then kind res (λ r. limited_then kind (ending kind).limited (λ inc. limited_done kind (instrs.AssertEq dst r inc)))))
 
   jnz : (to : Operand) → LimitedFrom 105 kind (jnz_at limits to) (jnz_at (without kind limits) to)
   unfolding jnz_at
   jnz to =
       from_then kind 105 (from_word kind 105 (102 ∷ []) refl) (λ _. limited_then kind cell.limited (λ c.
-          limited_then kind (from_mark kind 33 (61 ∷ []) refl).limited (λ _. limited_then kind (from_mark kind 48 [] refl).limited (λ _.
-          limited_then kind (ending kind).limited (λ inc. limited_done kind (instrs.Jnz c to inc))))))
+      limited_then kind (from_mark kind 33 (61 ∷ []) refl).limited (λ _. limited_then kind (from_mark kind 48 [] refl).limited (λ _.
+      limited_then kind (ending kind).limited (λ inc. limited_done kind (instrs.Jnz c to inc))))))
 
   jump_end : (rel : Bool) (to : Res) → Limited kind (jump_end_at rel to) (jump_end_at rel to)
   unfolding jump_end_at
@@ -151,11 +151,11 @@ module _ (kind : NumberKind) (limits : Limits) where
   jump_target : LimitedFrom 114 kind
       (branch 114 (word_at (codes "rel") >>= λ _. res_at limits >>= λ to. relative_end_at limits to) (word_at (codes "abs") >>= λ _. res_at limits >>= λ to. jump_end_at false to))
       (branch 114 (word_at (codes "rel") >>= λ _. res_at (without kind limits) >>= λ to. relative_end_at (without kind limits) to)
-          (word_at (codes "abs") >>= λ _. res_at (without kind limits) >>= λ to. jump_end_at false to))
+      (word_at (codes "abs") >>= λ _. res_at (without kind limits) >>= λ to. jump_end_at false to))
   jump_target =
       from_branch 114 97 kind refl
-          (from_then kind 114 (from_word kind 114 (101 ∷ 108 ∷ []) refl) (λ _. limited_then kind res relative_end))
-          (from_then kind 97 (from_word kind 97 (98 ∷ 115 ∷ []) refl) (λ _. limited_then kind res (jump_end false)))
+      (from_then kind 114 (from_word kind 114 (101 ∷ 108 ∷ []) refl) (λ _. limited_then kind res relative_end))
+      (from_then kind 97 (from_word kind 97 (98 ∷ 115 ∷ []) refl) (λ _. limited_then kind res (jump_end false)))
 
   jump : LimitedFrom 106 kind (jump_at limits) (jump_at (without kind limits))
   unfolding jump_at
@@ -165,19 +165,19 @@ module _ (kind : NumberKind) (limits : Limits) where
   unfolding call_at
   call =
       from_then kind 99 (from_word kind 99 (97 ∷ 108 ∷ 108 ∷ []) refl) (λ _. limited_then kind (base kind).limited (λ rel.
-          limited_then kind operand (λ to. limited_then kind (from_mark kind 59 [] refl).limited (λ _. limited_done kind (instrs.Call rel to)))))
+      limited_then kind operand (λ to. limited_then kind (from_mark kind 59 [] refl).limited (λ _. limited_done kind (instrs.Call rel to)))))
 
   add_ap : LimitedFrom 97 kind (add_ap_at limits) (add_ap_at (without kind limits))
   unfolding add_ap_at
   add_ap =
       from_then kind 97 (from_word kind 97 (112 ∷ []) refl) (λ _. limited_then kind (from_mark kind 43 (61 ∷ []) refl).limited (λ _.
-          limited_then kind res (λ by. limited_then kind (from_mark kind 59 [] refl).limited (λ _. limited_done kind (instrs.AddAp by)))))
+      limited_then kind res (λ by. limited_then kind (from_mark kind 59 [] refl).limited (λ _. limited_done kind (instrs.AddAp by)))))
 
   ret : LimitedFrom 114 kind ret_at ret_at
   unfolding ret_at
   ret =
       from_then kind 114 (from_word kind 114 (101 ∷ 116 ∷ []) refl) (λ _.
-          limited_then kind (from_mark kind 59 [] refl).limited (λ _. limited_done kind instrs.Ret))
+      limited_then kind (from_mark kind 59 [] refl).limited (λ _. limited_done kind instrs.Ret))
 
   pub instr : LimitedFrom 91 kind (instr_at limits) (instr_at (without kind limits))
   unfolding instr_at

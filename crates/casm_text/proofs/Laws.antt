@@ -98,4 +98,4 @@ code_limit kind front rest why e =
     let bare = instr kinds.Imm (without kind standard) in
     let exact = instr_exact (without kind standard) (bare_wide kind) in
     text_limit kind (instr_at standard) (instr_at (without kind standard)) (InstrText (without kind standard)) standard_is standard_moves
-        bare.limited.reads.is exact.sound exact.complete bare.moves limited.limited.lifts front rest why e
+    bare.limited.reads.is exact.sound exact.complete bare.moves limited.limited.lifts front rest why e

@@ -107,7 +107,7 @@ module _ (text rest : List ℕ) (why : Option NumberKind) (read : code_at standa
   only_refused (faults.Syntax place) h =
       let same = same_place h.0 h.1 h.2 in
       let never : (kind : NumberKind) → PassesLimit kind front rest → ⊥ =
-          λ kind passes. h.3 kind (subst (λ (f : List ℕ). PassesLimit kind f h.1) (sym same.0) (subst (λ (r : List ℕ). PassesLimit kind front r) (sym same.1) passes)) in
+      λ kind passes. h.3 kind (subst (λ (f : List ℕ). PassesLimit kind f h.1) (sym same.0) (subst (λ (r : List ℕ). PassesLimit kind front r) (sym same.1) passes)) in
       ap (λ w. fault_of w front) (reason_none never) ∙ ap (λ (f : List ℕ). faults.Syntax (place_behind f)) (sym same.0) ∙ ap faults.Syntax (sym h.4)
   only_refused (faults.OffsetRange line) h =
       let same = same_place h.0 h.1 h.2 in
@@ -136,7 +136,7 @@ module _ (text rest : List ℕ) where
   stopped why read =
       let same = front_taken text rest why read in
       subst (λ (f : List ℕ). Stopped (fault_of why f)) (sym same)
-          (record { none = no_code text rest why read; cause = stop_refused text rest why read; only = only_refused text rest why read })
+      (record { none = no_code text rest why read; cause = stop_refused text rest why read; only = only_refused text rest why read })
 
   pub stop_only : (stop : Stop NumberKind) → Gives {X = List Instr} (λ code. code) (Err stop) rest (code_at standard text)
       → (code : List Instr) → Text standard code text → IsShort code → refusal_of stop taken ≡ faults.Memory

@@ -12,9 +12,9 @@ ghost use Rattle.casm_text.specs.Refusals.{IsShort, Refused};
 
 use crate::fault::{AsmFault, NumberKind};
 use crate::reading::instr;
-use casm_word::{encode, Code, Instr};
+use casm_word::{Code, Instr, encode};
 use std::alloc::Global;
-use text_reading::{blanks, Stop};
+use text_reading::{Stop, blanks};
 
 /// The greatest number of words that code may have.
 const LONGEST: u64 = 1 << 24;

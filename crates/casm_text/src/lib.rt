@@ -12,3 +12,6 @@ mod reading;
 pub use assembling::assemble;
 pub use fault::{AsmFault, NumberKind};
 pub use printing::print;
+
+#[cfg(test)]
+mod tests;

@@ -10,7 +10,7 @@ ghost use Rattle.casm_text.specs.Reading.{negative, register_at, ending_at, offs
 use crate::fault::NumberKind;
 use casm_word::{CellRef, Instr, Operand, Reg, Res};
 use felt64::MODULUS;
-use text_reading::{is_next, mark, number, word, Stop};
+use text_reading::{Stop, is_next, mark, number, word};
 
 /// `ap` or `fp`.
 #[tactic(auto, unfolding(crate::specs::Reading::register_at))]

@@ -1,13 +1,13 @@
 -- Blanks: their reader reads them all, and the reader of a token and its blanks.
 use Rattle.text_reading.specs.declared.tokens.Spot.{Spot}
 use Rattle.text_reading.specs.declared.tokens.Spot.TheVariants as spots
-use Rattle.std.proofs.Common.{◌≡◌, ℕ, List, [], ◌∷◌, ◌++◌, Bool, true, false, cond, ◌||◌, eqb, Option, None, Some, Result, Ok, Err, refl, sym, ◌∙◌, ap, subst}
+use Rattle.std.proofs.Common.{◌≡◌, ℕ, List, [], ◌∷◌, Bool, true, false, cond, ◌||◌, eqb, Option, None, Some, Ok, refl, sym, ap}
 use Rattle.std.specs.Bool.{MatchBool}
 use Rattle.std.proofs.lemmas.Bool.{or_parts}
 use Rattle.text_reading.specs.Tokens.{is_blank, NoneNext, BlanksFrom, Blanks}
 use Rattle.text_reading.specs.Reading.{Answer, Answer.answers, Reader, done, ◌>>=◌, scan, scan_from}
 use Rattle.text_reading.specs.TokenReading.{next_spot, blanks_end, blanks_at, token}
-use Rattle.text_reading.proofs.Readers.{Ends, Starts, Opens, IsReader, scan_is, bind_is, bind_starts, done_is, done_starts, then_next}
+use Rattle.text_reading.proofs.Readers.{Ends, Starts, IsReader, scan_is, bind_is, bind_starts, done_is, done_starts, then_next}
 
 abbrev pub is_gap : ℕ → Bool
 is_gap byte = is_blank byte || eqb byte 47

@@ -1,12 +1,12 @@
 -- A reader reads exactly what a form says: in both directions, form by form.
-use Rattle.std.proofs.Common.{◌≡◌, ◌≢◌, ℕ, zero, ◌-◌, ◌&&◌, List, [], ◌∷◌, ◌++◌, Bool, true, false, cond, eqb, Option, None, Some, Result, Ok, Err, refl, sym, ◌∙◌, ap, subst, inl, inr, ◌⊎◌}
+use Rattle.std.proofs.Common.{◌≡◌, ◌≢◌, ℕ, zero, ◌-◌, ◌&&◌, List, [], ◌∷◌, ◌++◌, Bool, true, false, cond, eqb, Option, None, Some, Ok, refl, sym, ◌∙◌, ap, subst, inl, inr, ◌⊎◌}
 use Rattle.std.proofs.lemmas.Bool.{ne_eqb}
-use Rattle.text_reading.specs.Tokens.{Form, is_digit, Mark, Word, Digits, Number}
-use Rattle.text_reading.specs.Reading.{Answer, Answer.answers, Reader, done, go_on, ◌>>=◌, begins, branch, scan, scan_from}
+use Rattle.text_reading.specs.Tokens.{Form, is_digit, Mark, Word, Number}
+use Rattle.text_reading.specs.Reading.{Answer.answers, Reader, done, ◌>>=◌, begins, branch, scan, scan_from}
 use Rattle.text_reading.specs.TokenReading.{mark_at, word_at, next_number, number_end, digits_at, number_at}
 use Rattle.text_reading.proofs.Readers.{bind_read, then_next}
-use Rattle.text_reading.proofs.TokenFacts.{IsWide, number_from, mark_sound, mark_complete, word_sound, word_complete}
-use Rattle.text_reading.proofs.NumberFacts.{number_sound, number_complete, digits_complete, digit_bounds}
+use Rattle.text_reading.proofs.TokenFacts.{IsWide, mark_sound, mark_complete, word_sound, word_complete}
+use Rattle.text_reading.proofs.NumberFacts.{number_sound, number_complete, digits_complete}
 use Rattle.text_reading.proofs.WholeTexts.{Sound, Complete}
 
 pub record IsExact {K A : Type 0} (reader : Reader K A) (form : A → Form) : Type 0 where
@@ -60,6 +60,7 @@ exact_last {K} {A} {B} {reader} {form} make exact = record {
   where
     made : (x y : B) (text rest : List ℕ) → done {K = K} x text ≡ answers (Ok y) rest → x ≡ y
     made x y text rest e = cc
+
     left_is : (x y : B) (text rest : List ℕ) → done {K = K} x text ≡ answers (Ok y) rest → text ≡ rest
     left_is x y text rest e = cc
 
@@ -89,6 +90,7 @@ exact_branch {K} {A} byte {reader} {other} {form} {other_form} exact others begi
         → form y text rest ⊎ ((begins byte text ≡ false) × other_form y text rest)
     sound_at text rest y true is e = inl (exact.sound text rest y e)
     sound_at text rest y false is e = inr (is, others.sound text rest y e)
+
     complete_at : (text rest : List ℕ) (y : A) → form y text rest ⊎ ((begins byte text ≡ false) × other_form y text rest) → branch byte reader other text ≡ answers (Ok y) rest
     complete_at text rest y (inl h) = ap (λ b. cond b (reader text) (other text)) (begins_so y text rest h) ∙ exact.complete text rest y h
     complete_at text rest y (inr h) = ap (λ b. cond b (reader text) (other text)) h.0 ∙ others.complete text rest y h.1
@@ -135,11 +137,13 @@ number_begins limit n other text rest differs h = go text (digits_complete limit
   where
     true_is_false : true ≡ false → ⊥
     true_is_false clash = cc
+
     first_digit : (byte : ℕ) (t : List ℕ) (b : Bool) → is_digit byte ≡ b
         → scan_from (next_number limit true) (number_end zero) (cond (b && true) (Some (Some (byte - 48))) None) None byte t (λ a. scan (next_number limit true) (number_end zero) a t) ≡ answers (Ok n) h.0
         → eqb byte other ≡ false
     first_digit byte t true is e = ne_eqb byte other (λ same. let clash : true ≡ false = sym is ∙ ap is_digit same ∙ differs in true_is_false clash)
     first_digit byte t false is e = absurd cc
+
     go : (t : List ℕ) → digits_at limit true zero t ≡ answers (Ok n) h.0 → begins other t ≡ false
     go [] e = refl
     go (byte ∷ t) e = first_digit byte t (is_digit byte) refl e

@@ -1,11 +1,11 @@
 -- A reader with limits and the same reader where one kind of number has no limit, joined form by form: what a
 -- format's table of forms is made of.
-use Rattle.std.proofs.Common.{◌≡◌, ◌≢◌, ℕ, ◌+◌, ◌<◌, ◌≤◌, List, [], ◌∷◌, ◌++◌, length, Bool, true, false, cond, Option, None, Some, Result, Ok, Err, refl, sym, ◌∙◌, ap, arith}
+use Rattle.std.proofs.Common.{◌≡◌, ◌≢◌, ℕ, ◌<◌, ◌≤◌, List, ◌∷◌, length, Bool, true, false, cond, Option, None, Ok, ap, arith}
 use Rattle.std.proofs.lemmas.List.{length-append}
-use Rattle.text_reading.specs.Reading.{Answer, Answer.answers, Reader, done, go_on, ◌>>=◌, begins, branch}
+use Rattle.text_reading.specs.Reading.{Answer.answers, Reader, done, ◌>>=◌, begins, branch}
 use Rattle.text_reading.specs.TokenReading.{mark_at, word_at, number_at}
 use Rattle.text_reading.proofs.Readers.{Starts, Opens, IsReader, bind_is, bind_starts, bind_opens, bind_read, done_is, done_starts, branch_is, branch_opens, opens_starts}
-use Rattle.text_reading.proofs.Limits.{Lifts, bind_lifts, lifts_done, branch_lifts, lifts_itself}
+use Rattle.text_reading.proofs.Limits.{Lifts, bind_lifts, lifts_done, branch_lifts}
 use Rattle.text_reading.specs.Tokens.{Blanks}
 use Rattle.text_reading.proofs.BlankFacts.{Fresh, is_gap, blanks_is, blanks_complete}
 use Rattle.text_reading.proofs.TokenFacts.{mark_is, mark_opens, mark_lifts, mark_sound, word_is, word_opens, word_lifts, word_sound, number_is, number_starts}
@@ -69,7 +69,6 @@ then_reads reader next reads nexts = record {
 }
 
 module _ {K A B : Type 0} (kind : K) {reader bare : Reader K A} {next next_bare : A → Reader K B} where
-
   -- one form and then the next
   pub limited_then : Limited kind reader bare → ((x : A) → Limited kind (next x) (next_bare x)) → Limited kind (reader >>= next) (bare >>= next_bare)
   limited_then first_form then_form = record {
@@ -143,4 +142,3 @@ pub limited_other : {K : Type 0} (limit : Option ℕ) (zero_too : Bool) (kind ot
 limited_other limit zero_too kind other differs =
     let reads = number_reads limit zero_too kind in
     record { reads = reads; bare_reads = reads; lifts = number_keeps limit zero_too kind other differs }
-

@@ -2,8 +2,8 @@
 -- limit; and every other stop is a stop there too.
 use Rattle.std.proofs.Common.{◌≡◌, ℕ, List, [], ◌∷◌, ◌++◌, Bool, true, false, cond, Option, None, Some, Result, Ok, Err, refl, sym, ◌∙◌, ap, subst, append_assoc}
 use Rattle.text_reading.specs.Tokens.{is_digit}
-use Rattle.text_reading.specs.Reading.{first, Answer, Answer.answers, Reader, done, go_on, ◌>>=◌, begins, branch, scan, scan_from}
-use Rattle.text_reading.proofs.Readers.{not_longer, IsReader, Parts, Parts.stopped, Parts.went_on, parts, first-append, then_next, then_stops, begins-first, Starts}
+use Rattle.text_reading.specs.Reading.{first, Answer, Answer.answers, Reader, done, ◌>>=◌, begins, branch, scan, scan_from}
+use Rattle.text_reading.proofs.Readers.{IsReader, Parts, Parts.stopped, Parts.went_on, parts, first-append, then_next, then_stops, begins-first}
 
 -- it stops at a number of this kind that passes its limit
 abbrev pub Passes : {K A : Type 0} → K → Result A (Option K) → Type 0
@@ -41,7 +41,6 @@ module _ {K A B : Type 0} {behind follow : List ℕ → Type 0} (kind : K) (read
     (is : IsReader behind reader) (nexts : (x : A) → IsReader follow (next x))
     (bare_is : IsReader behind bare) (nexts_bare : (x : A) → IsReader follow (next_bare x))
     (lifts : Lifts kind reader bare) (next_lifts : (x : A) → Lifts kind (next x) (next_bare x)) where
-
   -- what follows an answer that left nothing leaves nothing
   leaves_nothing : (text : List ℕ) (out : Result A (Option K)) → bare text ≡ answers out [] → (both : Result B (Option K)) × ((bare >>= next_bare) text ≡ answers both [])
   leaves_nothing text (Err why) e = (Err why, then_stops bare next_bare text [] why e)
@@ -63,10 +62,11 @@ module _ {K A B : Type 0} {behind follow : List ℕ → Type 0} (kind : K) (read
       go_first : (why : Option K) → out ≡ Err why → Lifted kind bare taken rest (Err why) → Lifted kind (bare >>= next_bare) taken rest out
       go_first why out_is (kept never same) =
           kept (λ p. never (passes_stop B A kind why (subst (Passes kind) out_is p)))
-              (then_stops bare next_bare (taken ++ rest) rest why same ∙ ap (λ o. answers o rest) (sym out_is))
+          (then_stops bare next_bare (taken ++ rest) rest why same ∙ ap (λ o. answers o rest) (sym out_is))
       go_first why out_is (passed p digit more rest_is is_one bare_out same) =
           let both = leaves_nothing (taken ++ (digit ∷ [])) bare_out same in
           passed (subst (Passes kind) (sym out_is) (passes_stop A B kind why p)) digit more rest_is is_one both.0 both.1
+
       go_next : (x : A) (before after : List ℕ) → taken ≡ before ++ after → bare (before ++ (after ++ rest)) ≡ answers (Ok x) (after ++ rest)
           → Lifted kind (next_bare x) after rest out → Lifted kind (bare >>= next_bare) taken rest out
       go_next x before after taken_is was (kept never same) =
@@ -76,13 +76,15 @@ module _ {K A B : Type 0} {behind follow : List ℕ → Type 0} (kind : K) (read
           let whole : taken ++ (digit ∷ []) ≡ before ++ (after ++ (digit ∷ [])) = ap (λ (t : List ℕ). t ++ (digit ∷ [])) taken_is ∙ append_assoc before after (digit ∷ []) in
           let heads : first rest ≡ first (digit ∷ []) = ap first rest_is in
           passed p digit more rest_is is_one bare_out
-              (ap (bare >>= next_bare) whole
-              ∙ then_next bare next_bare (before ++ (after ++ (digit ∷ []))) (after ++ (digit ∷ [])) x (answers bare_out [])
-                  (bare_is.local before (after ++ rest) (after ++ (digit ∷ [])) (Ok x) was (first-append after rest (digit ∷ []) heads)) same)
+          (ap (bare >>= next_bare) whole
+          ∙ then_next bare next_bare (before ++ (after ++ (digit ∷ []))) (after ++ (digit ∷ [])) x (answers bare_out [])
+          (bare_is.local before (after ++ rest) (after ++ (digit ∷ [])) (Ok x) was (first-append after rest (digit ∷ []) heads)) same)
+
       go_read : (x : A) (before after : List ℕ) → taken ≡ before ++ after → next x (after ++ rest) ≡ answers out rest
           → Lifted kind bare before (after ++ rest) (Ok x) → Lifted kind (bare >>= next_bare) taken rest out
       go_read x before after taken_is after_is (kept never same) = go_next x before after taken_is same (next_lifts x after rest out after_is)
       go_read x before after taken_is after_is (passed p digit more rest_is is_one bare_out same) = absurd p
+
       go : Parts reader next taken rest out → Lifted kind (bare >>= next_bare) taken rest out
       go (stopped why was out_is) = go_first why out_is (lifts taken rest (Err why) was)
       go (went_on x before after taken_is was after_is) = go_read x before after taken_is after_is (lifts before (after ++ rest) (Ok x) was)
@@ -93,12 +95,14 @@ branch_lifts {K} {A} kind byte reader bare other other_bare lifts other_lifts ta
   where
     both : (b : Bool) (text : List ℕ) → begins byte text ≡ b → branch byte bare other_bare text ≡ cond b (bare text) (other_bare text)
     both b text is = ap (λ c. cond c (bare text) (other_bare text)) is
+
     lifted : (b : Bool) → begins byte (taken ++ rest) ≡ b → Lifted kind (λ text. cond b (bare text) (other_bare text)) taken rest out → Lifted kind (branch byte bare other_bare) taken rest out
     lifted b is (kept never same) = kept never (both b (taken ++ rest) is ∙ same)
     lifted b is (passed p digit more rest_is is_one bare_out same) =
         let heads : first (digit ∷ []) ≡ first rest = ap first (sym rest_is) in
         let here = begins-first byte (taken ++ (digit ∷ [])) (taken ++ rest) (first-append taken (digit ∷ []) rest heads) in
         passed p digit more rest_is is_one bare_out (both b (taken ++ (digit ∷ [])) (here ∙ is) ∙ same)
+
     go : (b : Bool) → begins byte (taken ++ rest) ≡ b → cond b (reader (taken ++ rest)) (other (taken ++ rest)) ≡ answers out rest → Lifted kind (branch byte bare other_bare) taken rest out
     go true is e = lifted true is (lifts taken rest out e)
     go false is e = lifted false is (other_lifts taken rest out e)

@@ -1,11 +1,10 @@
 -- Numbers: their reader reads what their form says, and a limit changes no more than where they pass it.
-use Rattle.std.proofs.Common.{◌≡◌, ◌≢◌, ℕ, zero, suc, ◌+◌, ◌*◌, ◌-◌, ◌/◌, ◌%◌, ◌<◌, ◌≤◌, List, [], ◌∷◌, ◌++◌, length, Bool, true, false, cond, not, ◌||◌, ◌&&◌, eqb, leb, ltb, Option, None, Some, Result, Ok, Err, refl, sym, ◌∙◌, ap, subst, append_assoc, arith, inl, inr, ◌⊎◌}
-use Rattle.std.proofs.lemmas.Bool.{or_parts, or_left, and_parts, and_from, and_left, and_right, eqb-true, eqb-false, eq-eqb, ne_eqb, leb-true, le-leb, lt-ltb, ltb-true, cases_eq, cases_lt, cases_Bool}
-use Rattle.std.proofs.lemmas.List.{append-nil}
+use Rattle.std.proofs.Common.{◌≡◌, ◌≢◌, ℕ, zero, suc, ◌+◌, ◌*◌, ◌-◌, ◌/◌, ◌%◌, ◌<◌, ◌≤◌, List, [], ◌∷◌, ◌++◌, Bool, true, false, cond, not, ◌||◌, ◌&&◌, eqb, leb, Option, None, Some, Result, Ok, Err, refl, sym, ◌∙◌, ap, subst, append_assoc, arith, inl, inr, ◌⊎◌}
+use Rattle.std.proofs.lemmas.Bool.{or_left, and_parts, and_from, and_right, ne_eqb, leb-true, le-leb, lt-ltb, ltb-true, cases_eq, cases_lt, cases_Bool}
 use Rattle.byte_reading.specs.Decimal.{decimal_text}
-use Rattle.text_reading.specs.Tokens.{is_digit, is_within, NoneNext, Digits, Blanks, Number}
-use Rattle.text_reading.specs.Reading.{first, Answer, Answer.answers, Reader, done, ◌>>=◌, scan, scan_from, go_on}
-use Rattle.text_reading.specs.TokenReading.{token, longer, next_number, number_end, digits_at, number_at}
+use Rattle.text_reading.specs.Tokens.{is_digit, is_within, NoneNext, Digits, Number}
+use Rattle.text_reading.specs.Reading.{Answer, Answer.answers, Reader, scan, scan_from}
+use Rattle.text_reading.specs.TokenReading.{longer, next_number, number_end, digits_at, number_at}
 use Rattle.text_reading.proofs.Readers.{not_longer, scan_short}
 use Rattle.text_reading.proofs.Limits.{Passes, Lifted, Lifted.kept, Lifted.passed, Lifts, lifts_itself, scan_never}
 use Rattle.text_reading.proofs.Decimals.{digit_text, longer_text}
@@ -53,7 +52,7 @@ module _ {K : Type 0} (limit : Option ℕ) (zero_too : Bool) (kind : K) where
     where
       go : (b : Bool) → goes_on n byte ≡ b
           → (is_within limit (longer n byte) ≡ true → from (Some (longer n byte)) text ≡ answers (Ok m) rest
-              → (decimal_text (longer n byte) ++ text ≡ decimal_text m ++ rest) × NoneNext is_digit rest × (is_within limit m ≡ true) × (0 < m))
+          → (decimal_text (longer n byte) ++ text ≡ decimal_text m ++ rest) × NoneNext is_digit rest × (is_within limit m ≡ true) × (0 < m))
           → scan_from (next_number limit zero_too) (number_end kind) (cond b (Some (Some (longer n byte))) None) (Some n) byte text (λ a. from a text) ≡ answers (Ok m) rest
           → (decimal_text n ++ (byte ∷ text) ≡ decimal_text m ++ rest) × NoneNext is_digit rest × (is_within limit m ≡ true) × (0 < m)
       go true is more e =
@@ -61,12 +60,15 @@ module _ {K : Type 0} (limit : Option ℕ) (zero_too : Bool) (kind : K) where
           let others = and_parts (is_digit byte) (is_within limit (longer n byte)) tests.1 in
           let tail = more others.1 e in
           let here : decimal_text n ++ (byte ∷ text) ≡ decimal_text (longer n byte) ++ text =
-              sym (ap (λ (t : List ℕ). t ++ text) (digit_behind n byte above others.0) ∙ append_assoc (decimal_text n) (byte ∷ []) text) in
+          sym (ap (λ (t : List ℕ). t ++ text) (digit_behind n byte above others.0) ∙ append_assoc (decimal_text n) (byte ∷ []) text) in
           (here ∙ tail.0, tail.1, tail.2, tail.3)
       go false is more e =
-          let end = sound_end n byte m text rest e in
-          (ap (λ k. decimal_text k ++ (byte ∷ text)) end.0 ∙ ap (λ (t : List ℕ). decimal_text m ++ t) end.1,
-           subst (NoneNext is_digit) end.1 end.2, subst (λ k. is_within limit k ≡ true) end.0 within, omega (arith, end.0))
+          let end = sound_end n byte m text rest e in (
+            ap (λ k. decimal_text k ++ (byte ∷ text)) end.0 ∙ ap (λ (t : List ℕ). decimal_text m ++ t) end.1,
+            subst (NoneNext is_digit) end.1 end.2,
+            subst (λ k. is_within limit k ≡ true) end.0 within,
+            omega (arith, end.0),
+          )
 
   sound_zero : (text rest : List ℕ) (m : ℕ) → from (Some 0) text ≡ answers (Ok m) rest → (0 ≡ m) × (text ≡ rest) × NoneNext is_digit rest
   sound_zero [] rest m e = let none : [] ≡ rest = cc in (cc, none, subst (NoneNext is_digit) none tt)
@@ -91,12 +93,14 @@ module _ {K : Type 0} (limit : Option ℕ) (zero_too : Bool) (kind : K) where
       first_digit is may e (inl zero_is) =
           let bytes : byte - 48 ≡ 0 = omega arith in
           let tail = sound_zero text rest m (subst (λ n. from (Some n) text ≡ answers (Ok m) rest) bytes e) in
-          let whole : byte ∷ text ≡ decimal_text 0 ++ rest = rw (digit_text 0 (omega arith), zero_is) (ap (λ (t : List ℕ). 48 ∷ t) tail.1) in
-          (record {
-            text_is = whole ∙ ap (λ n. decimal_text n ++ rest) tail.0;
-            whole = tail.2;
-            within = subst (λ n. is_within limit n ≡ true) tail.0 (wide_within wide 0 (omega arith));
-          }, λ none. absurd (no_zero none may))
+          let whole : byte ∷ text ≡ decimal_text 0 ++ rest = rw (digit_text 0 (omega arith), zero_is) (ap (λ (t : List ℕ). 48 ∷ t) tail.1) in (
+            record {
+              text_is = whole ∙ ap (λ n. decimal_text n ++ rest) tail.0;
+              whole = tail.2;
+              within = subst (λ n. is_within limit n ≡ true) tail.0 (wide_within wide 0 (omega arith));
+            },
+            λ none. absurd (no_zero none may),
+          )
         where
           no_zero : zero_too ≡ false → (zero_too || not (eqb byte 48)) ≡ true → ⊥
           no_zero none may =
@@ -111,6 +115,7 @@ module _ {K : Type 0} (limit : Option ℕ) (zero_too : Bool) (kind : K) where
           let whole : byte ∷ text ≡ decimal_text (byte - 48) ++ text = rw (digit_text (byte - 48) small) (ap (λ d. d ∷ text) (sym same)) in
           let some_m : 0 < m = tail.3 in
           (record { text_is = whole ∙ tail.0; whole = tail.1; within = tail.2 }, λ none is_zero. omega arith)
+
       go : (b : Bool) → (is_digit byte && (zero_too || not (eqb byte 48))) ≡ b
           → scan_from (next_number limit zero_too) (number_end kind) (cond b (Some (Some (byte - 48))) None) None byte text (λ a. from a text) ≡ answers (Ok m) rest
           → Digits limit m (byte ∷ text) rest × (zero_too ≡ false → m ≢ 0)
@@ -137,18 +142,20 @@ module _ {K : Type 0} (limit : Option ℕ) (zero_too : Bool) (kind : K) where
           always : (b : Bool) → (b || true) ≡ true
           always true = refl
           always false = refl
+
       smaller : (l : Option ℕ) → is_within l n ≡ true → is_within l (n / 10) ≡ true
       smaller None within = refl
       smaller (Some most_of) within = let below_it = ltb-true n most_of within in lt-ltb (n / 10) most_of (omega arith)
+
       more_digits : 10 ≤ n → from None (decimal_text (n / 10) ++ ((48 + n % 10) ∷ tail)) ≡ from (Some (n / 10)) ((48 + n % 10) ∷ tail)
           → from None (decimal_text n ++ tail) ≡ from (Some n) tail
       more_digits long front =
           let digit : n % 10 < 10 = omega arith in
           let value : n / 10 * 10 + n % 10 ≡ n = omega arith in
           let text : decimal_text n ≡ decimal_text (n / 10) ++ ((48 + n % 10) ∷ []) =
-              ap decimal_text (sym value) ∙ longer_text (n / 10) (n % 10) (omega arith) digit in
+          ap decimal_text (sym value) ∙ longer_text (n / 10) (n % 10) (omega arith) digit in
           let whole : decimal_text n ++ tail ≡ decimal_text (n / 10) ++ ((48 + n % 10) ∷ tail) =
-              ap (λ (t : List ℕ). t ++ tail) text ∙ append_assoc (decimal_text (n / 10)) ((48 + n % 10) ∷ []) tail in
+          ap (λ (t : List ℕ). t ++ tail) text ∙ append_assoc (decimal_text (n / 10)) ((48 + n % 10) ∷ []) tail in
           ap (from None) whole ∙ front ∙ last_digit digit value
         where
           last_digit : n % 10 < 10 → n / 10 * 10 + n % 10 ≡ n → from (Some (n / 10)) ((48 + n % 10) ∷ tail) ≡ from (Some n) tail
@@ -167,6 +174,7 @@ module _ {K : Type 0} (limit : Option ℕ) (zero_too : Bool) (kind : K) where
       zero_read may =
           let test : (zero_too || false) ≡ true = or_left zero_too false may in
           ap (λ b. scan_from (next_number limit zero_too) (number_end kind) (cond b (Some (Some 0)) None) None 48 rest (λ a. from a rest)) test
+
       go : (m ≡ 0) ⊎ (m ≡ 0 → ⊥) → from None (decimal_text m ++ rest) ≡ answers (Ok m) rest
       go (inl none) =
           let may : zero_too ≡ true = elim (cases_Bool zero_too) [ inl may ↦ may | inr none_too ↦ absurd (some none_too none) ] in
@@ -211,6 +219,7 @@ module _ {K : Type 0} (limit : Option ℕ) (zero_too : Bool) (kind : K) where
     where
       stays : (not (eqb n 0) && (is_digit byte && true)) ≡ false → bare (Some n) (byte ∷ more) ≡ answers out (byte ∷ more)
       stays test = ap (λ b. step (next_number None zero_too) (cond b (Some (Some (longer n byte))) None) (Some n) byte more) test ∙ ap (λ o. answers o (byte ∷ more)) out_is
+
       go : (z d : Bool) → eqb n 0 ≡ z → is_digit byte ≡ d → Lifted kind (bare (Some n)) [] (byte ∷ more) out
       go z false z_is d_is =
           let value : number_end kind (Some n) (Some byte) ≡ Ok n = rw d_is refl in
@@ -224,7 +233,7 @@ module _ {K : Type 0} (limit : Option ℕ) (zero_too : Bool) (kind : K) where
           let value : number_end kind (Some n) (Some byte) ≡ Err (Some kind) = rw (d_is, z_is) refl in
           let test : (not (eqb n 0) && (is_digit byte && true)) ≡ true = rw (z_is, d_is) refl in
           passed (subst (Passes kind) (sym value ∙ out_is) refl) byte more refl d_is (Ok (longer n byte))
-              (ap (λ b. step (next_number None zero_too) (cond b (Some (Some (longer n byte))) None) (Some n) byte []) test)
+          (ap (λ b. step (next_number None zero_too) (cond b (Some (Some (longer n byte))) None) (Some n) byte []) test)
 
   lifts_from : (taken rest : List ℕ) (state : Option ℕ) (out : Result ℕ (Option K)) → from state (taken ++ rest) ≡ answers out rest → Lifted kind (bare state) taken rest out
   lifts_from [] [] None out e = kept (λ p. let out_is : out ≡ Err None = cc in subst (Passes kind) out_is p) e
@@ -237,7 +246,7 @@ module _ {K : Type 0} (limit : Option ℕ) (zero_too : Bool) (kind : K) where
       go false is e =
           let out_is : out ≡ Err None = cc in
           kept (λ p. subst (Passes kind) out_is p)
-              (ap (λ b. step (next_number None zero_too) (cond b (Some (Some (byte - 48))) None) None byte more) is ∙ ap (λ o. answers o (byte ∷ more)) (sym out_is))
+          (ap (λ b. step (next_number None zero_too) (cond b (Some (Some (byte - 48))) None) None byte more) is ∙ ap (λ o. answers o (byte ∷ more)) (sym out_is))
   lifts_from [] (byte ∷ more) (Some n) out e = go (goes_on n byte) refl e
     where
       go : (b : Bool) → goes_on n byte ≡ b → step (next_number limit zero_too) (cond b (Some (Some (longer n byte))) None) (Some n) byte more ≡ answers out (byte ∷ more)
@@ -251,7 +260,7 @@ module _ {K : Type 0} (limit : Option ℕ) (zero_too : Bool) (kind : K) where
           → step (next_number limit zero_too) (cond b (Some (Some (byte - 48))) None) None byte (taken ++ rest) ≡ answers out rest → Lifted kind (bare None) (byte ∷ taken) rest out
       go true is more e =
           one_more None (Some (byte - 48)) byte taken rest out
-              (λ text. ap (λ b. step (next_number None zero_too) (cond b (Some (Some (byte - 48))) None) None byte text) is) (more e)
+          (λ text. ap (λ b. step (next_number None zero_too) (cond b (Some (Some (byte - 48))) None) None byte text) is) (more e)
       go false is more e = let whole : byte ∷ (taken ++ rest) ≡ rest = cc in let none = not_longer (byte ∷ taken) rest whole in absurd cc
   lifts_from (byte ∷ taken) rest (Some n) out e = go (goes_on n byte) refl (lifts_from taken rest (Some (longer n byte)) out) e
     where
@@ -264,7 +273,7 @@ module _ {K : Type 0} (limit : Option ℕ) (zero_too : Bool) (kind : K) where
           let others = and_parts (is_digit byte) (is_within limit (longer n byte)) tests.1 in
           let test : (not (eqb n 0) && (is_digit byte && true)) ≡ true = and_from (not (eqb n 0)) (is_digit byte && true) tests.0 (and_from (is_digit byte) true others.0 refl) in
           one_more (Some n) (Some (longer n byte)) byte taken rest out
-              (λ text. ap (λ b. step (next_number None zero_too) (cond b (Some (Some (longer n byte))) None) (Some n) byte text) test) (more e)
+          (λ text. ap (λ b. step (next_number None zero_too) (cond b (Some (Some (longer n byte))) None) (Some n) byte text) test) (more e)
       go false is more e = let whole : byte ∷ (taken ++ rest) ≡ rest = cc in let none = not_longer (byte ∷ taken) rest whole in absurd cc
 
   pub number_lifts : Lifts kind (number_at limit zero_too kind) (number_at None zero_too kind)
@@ -283,9 +292,11 @@ module _ {K : Type 0} (limit : Option ℕ) (zero_too : Bool) (kind : K) where
       at_end n byte true true p = p
       at_end n byte true false p = differs (sym p)
       at_end n byte false z p = p
+
       never : (state : Option ℕ) (byte : Option ℕ) → Passes other (number_end kind state byte) → ⊥
       never None byte p = p
       never (Some n) None p = p
       never (Some n) (Some byte) p = at_end n byte (is_digit byte) (eqb n 0) p
+
       digits_keep : Lifts other (digits_at limit zero_too kind) (digits_at limit zero_too kind)
       digits_keep = lifts_itself other (from None) (λ text rest out e p. scan_never other (next_number limit zero_too) (number_end kind) never text None rest out e p)

@@ -1,8 +1,7 @@
 -- A text has one place of a refusal.
-use Rattle.std.proofs.Common.{◌≡◌, ℕ, ◌-◌, ◌+◌, List, [], ◌∷◌, ◌++◌, length, take, refl, sym, ◌∙◌, ap, subst, append_assoc, arith, inl, inr, ◌⊎◌}
-use Rattle.std.proofs.lemmas.List.{append-nil, length-append, take_at}
-use Rattle.text_reading.specs.Places.{Continues, IsPlace}
-use Rattle.text_reading.proofs.Readers.{cancel}
+use Rattle.std.proofs.Common.{◌≡◌, ℕ, ◌-◌, List, [], ◌∷◌, ◌++◌, length, take, refl, sym, ◌∙◌, ap, subst, append_assoc, arith, inl, inr, ◌⊎◌}
+use Rattle.std.proofs.lemmas.List.{length-append, take_at}
+use Rattle.text_reading.specs.Places.{IsPlace}
 
 -- one list is longer than the other by these bytes
 abbrev Longer : List ℕ → List ℕ → List ℕ → List ℕ → Type 0
@@ -17,8 +16,10 @@ split (byte ∷ front) rest (c ∷ other) other_rest same = go (split front rest
   where
     heads : byte ≡ c
     heads = cc
+
     tails : front ++ rest ≡ other ++ other_rest
     tails = cc
+
     go : ((front ≡ other) × (rest ≡ other_rest)) ⊎ (Longer front rest other other_rest ⊎ Longer other other_rest front rest)
         → ((byte ∷ front ≡ c ∷ other) × (rest ≡ other_rest)) ⊎ (Longer (byte ∷ front) rest (c ∷ other) other_rest ⊎ Longer (c ∷ other) other_rest (byte ∷ front) rest)
     go (inl both) = let tail = both.0 in inl (cc, both.1)
@@ -31,7 +32,7 @@ no_longer : {A : Type 0} (IsText : A → List ℕ → Type 0) (text front rest o
 no_longer IsText text front rest other other_rest place other_place l =
     let goes = other_place.before in
     let whole : other ++ goes.1 ≡ (front ++ (l.0 ∷ [])) ++ (l.1 ++ goes.1) =
-        ap (λ (t : List ℕ). t ++ goes.1) l.2 ∙ append_assoc front (l.0 ∷ l.1) goes.1 ∙ sym (append_assoc front (l.0 ∷ []) (l.1 ++ goes.1)) in
+    ap (λ (t : List ℕ). t ++ goes.1) l.2 ∙ append_assoc front (l.0 ∷ l.1) goes.1 ∙ sym (append_assoc front (l.0 ∷ []) (l.1 ++ goes.1)) in
     place.longest l.0 (l.1 ++ other_rest) l.3 (goes.0, l.1 ++ goes.1, subst (λ (t : List ℕ). IsText goes.0 t) whole goes.2)
 
 pub one_place : {A : Type 0} (IsText : A → List ℕ → Type 0) (text front rest other other_rest : List ℕ) → IsPlace IsText text front rest → IsPlace IsText text other other_rest

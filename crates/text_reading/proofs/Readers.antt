@@ -1,5 +1,5 @@
 -- What carries an exact place: four properties of readers, each closed under the ways to join readers.
-use Rattle.std.proofs.Common.{◌≡◌, ℕ, ◌+◌, ◌<◌, ◌≤◌, List, [], ◌∷◌, ◌++◌, length, Bool, true, false, cond, eqb, Option, None, Some, Result, Ok, Err, refl, sym, ◌∙◌, ap, subst, append_assoc, arith, inl, inr}
+use Rattle.std.proofs.Common.{◌≡◌, ℕ, List, [], ◌∷◌, ◌++◌, length, Bool, true, false, cond, eqb, Option, None, Some, Result, Ok, Err, refl, sym, ◌∙◌, ap, subst, append_assoc, arith}
 use Rattle.std.proofs.lemmas.List.{length-append, append-nil}
 use Rattle.std.proofs.lemmas.Bool.{eq-eqb}
 use Rattle.text_reading.specs.Reading.{first, Answer, Answer.answers, Reader, done, go_on, ◌>>=◌, begins, branch, scan, scan_from}
@@ -58,11 +58,11 @@ parts {K} {A} {B} reader next taken rest out is nexts e = go (reader (taken ++ r
         let front = is.takes (taken ++ rest) left (Ok x) was in
         let back = (nexts x).takes left rest out e in
         let taken_is : taken ≡ front.0 ++ back.0 =
-            cancel taken (front.0 ++ back.0) rest (front.1 ∙ ap (λ (t : List ℕ). front.0 ++ t) back.1 ∙ sym (append_assoc front.0 back.0 rest)) in
+        cancel taken (front.0 ++ back.0) rest (front.1 ∙ ap (λ (t : List ℕ). front.0 ++ t) back.1 ∙ sym (append_assoc front.0 back.0 rest)) in
         let whole : taken ++ rest ≡ front.0 ++ (back.0 ++ rest) = front.1 ∙ ap (λ (t : List ℕ). front.0 ++ t) back.1 in
         went_on x front.0 back.0 taken_is
-            (ap reader (sym whole) ∙ was ∙ ap (answers (Ok x)) back.1)
-            (ap (next x) (sym back.1) ∙ e)
+        (ap reader (sym whole) ∙ was ∙ ap (answers (Ok x)) back.1)
+        (ap (next x) (sym back.1) ∙ e)
 
 pub first-append : (after rest other : List ℕ) → first rest ≡ first other → first (after ++ rest) ≡ first (after ++ other)
 first-append [] rest other same = same
@@ -90,7 +90,6 @@ bind_read {K} {A} {B} reader next text rest y e = go (reader text) refl e
 
 module _ {K A B : Type 0} {behind follow : List ℕ → Type 0} (reader : Reader K A) (next : A → Reader K B)
     (is : IsReader behind reader) (nexts : (x : A) → IsReader follow (next x)) (starts : (x : A) → Starts behind follow (next x)) where
-
   bind_takes : (bytes rest : List ℕ) (out : Result B (Option K)) → (reader >>= next) bytes ≡ answers out rest → (taken : List ℕ) × (bytes ≡ taken ++ rest)
   bind_takes bytes rest out e = go (reader bytes) refl e
     where
@@ -115,18 +114,21 @@ module _ {K A B : Type 0} {behind follow : List ℕ → Type 0} (reader : Reader
           let whole : taken ++ other ≡ before ++ (after ++ other) = ap (λ (t : List ℕ). t ++ other) taken_is ∙ append_assoc before after other in
           ap (reader >>= next) whole
           ∙ then_next reader next (before ++ (after ++ other)) (after ++ other) x (answers out other)
-              (is.local before (after ++ rest) (after ++ other) (Ok x) was (first-append after rest other same))
-              ((nexts x).local after rest other out after_is same)
+          (is.local before (after ++ rest) (after ++ other) (Ok x) was (first-append after rest other same))
+          ((nexts x).local after rest other out after_is same)
 
   -- what the first reader took can be ended, by its ending and the start of the next
   ends_first : (taken : List ℕ) → Ends behind reader taken → Ends follow (reader >>= next) taken
   ends_first taken ends =
-      let start = starts ends.1 in
-      (ends.0 ++ start.0, start.1, λ rest fits.
-          let go = start.2 rest fits in
-          let whole : taken ++ ((ends.0 ++ start.0) ++ rest) ≡ taken ++ (ends.0 ++ (start.0 ++ rest)) = ap (λ (t : List ℕ). taken ++ t) (append_assoc ends.0 start.0 rest) in
-          ap (reader >>= next) whole
-          ∙ then_next reader next (taken ++ (ends.0 ++ (start.0 ++ rest))) (start.0 ++ rest) ends.1 (answers (Ok start.1) rest) (ends.2 (start.0 ++ rest) go.0) go.1)
+      let start = starts ends.1 in (
+        ends.0 ++ start.0,
+        start.1,
+        λ rest fits.
+            let go = start.2 rest fits in
+            let whole : taken ++ ((ends.0 ++ start.0) ++ rest) ≡ taken ++ (ends.0 ++ (start.0 ++ rest)) = ap (λ (t : List ℕ). taken ++ t) (append_assoc ends.0 start.0 rest) in
+            ap (reader >>= next) whole
+            ∙ then_next reader next (taken ++ (ends.0 ++ (start.0 ++ rest))) (start.0 ++ rest) ends.1 (answers (Ok start.1) rest) (ends.2 (start.0 ++ rest) go.0) go.1,
+      )
 
   bind_viable : (taken rest : List ℕ) (out : Result B (Option K)) → (reader >>= next) (taken ++ rest) ≡ answers out rest → Ends follow (reader >>= next) taken
   bind_viable taken rest out e = go (parts reader next taken rest out is nexts e)
@@ -137,14 +139,17 @@ module _ {K A B : Type 0} {behind follow : List ℕ → Type 0} (reader : Reader
           let same : before ≡ taken = sym (append-nil before) ∙ sym taken_is in
           ends_first taken (subst (λ (t : List ℕ). Ends behind reader t) same (is.viable before rest (Ok x) was))
       go (went_on x before (byte ∷ after) taken_is was after_is) =
-          let ends = (nexts x).viable (byte ∷ after) rest out after_is in
-          (ends.0, ends.1, λ end fits.
-              let whole : taken ++ (ends.0 ++ end) ≡ before ++ ((byte ∷ after) ++ (ends.0 ++ end)) =
-                  ap (λ (t : List ℕ). t ++ (ends.0 ++ end)) taken_is ∙ append_assoc before (byte ∷ after) (ends.0 ++ end) in
-              ap (reader >>= next) whole
-              ∙ then_next reader next (before ++ ((byte ∷ after) ++ (ends.0 ++ end))) ((byte ∷ after) ++ (ends.0 ++ end)) x (answers (Ok ends.1) end)
-                  (is.local before ((byte ∷ after) ++ rest) ((byte ∷ after) ++ (ends.0 ++ end)) (Ok x) was refl)
-                  (ends.2 end fits))
+          let ends = (nexts x).viable (byte ∷ after) rest out after_is in (
+            ends.0,
+            ends.1,
+            λ end fits.
+                let whole : taken ++ (ends.0 ++ end) ≡ before ++ ((byte ∷ after) ++ (ends.0 ++ end)) =
+                ap (λ (t : List ℕ). t ++ (ends.0 ++ end)) taken_is ∙ append_assoc before (byte ∷ after) (ends.0 ++ end) in
+                ap (reader >>= next) whole
+                ∙ then_next reader next (before ++ ((byte ∷ after) ++ (ends.0 ++ end))) ((byte ∷ after) ++ (ends.0 ++ end)) x (answers (Ok ends.1) end)
+                (is.local before ((byte ∷ after) ++ rest) ((byte ∷ after) ++ (ends.0 ++ end)) (Ok x) was refl)
+                (ends.2 end fits),
+          )
 
   pub bind_is : IsReader follow (reader >>= next)
   bind_is = record { takes = bind_takes; local = bind_local; viable = bind_viable }
@@ -152,13 +157,17 @@ module _ {K A B : Type 0} {behind follow : List ℕ → Type 0} (reader : Reader
 pub bind_starts : {K A B : Type 0} (outer behind follow : List ℕ → Type 0) (reader : Reader K A) (next : A → Reader K B)
     → Starts outer behind reader → ((x : A) → Starts behind follow (next x)) → Starts outer follow (reader >>= next)
 bind_starts outer behind follow reader next start starts =
-    let then = starts start.1 in
-    (start.0 ++ then.0, then.1, λ rest fits.
-        let back = then.2 rest fits in
-        let front = start.2 (then.0 ++ rest) back.0 in
-        let whole = append_assoc start.0 then.0 rest in
-        (subst outer (sym whole) front.0,
-         ap (reader >>= next) whole ∙ then_next reader next (start.0 ++ (then.0 ++ rest)) (then.0 ++ rest) start.1 (answers (Ok then.1) rest) front.1 back.1))
+    let then = starts start.1 in (
+      start.0 ++ then.0,
+      then.1,
+      λ rest fits.
+          let back = then.2 rest fits in
+          let front = start.2 (then.0 ++ rest) back.0 in
+          let whole = append_assoc start.0 then.0 rest in (
+            subst outer (sym whole) front.0,
+            ap (reader >>= next) whole ∙ then_next reader next (start.0 ++ (then.0 ++ rest)) (then.0 ++ rest) start.1 (answers (Ok then.1) rest) front.1 back.1,
+          ),
+    )
 
 -- ---- a reader that takes nothing
 
@@ -196,7 +205,6 @@ begins-first byte (b ∷ rest) (c ∷ other) same = let one : b ≡ c = cc in ap
 
 module _ {K A : Type 0} {follow : List ℕ → Type 0} (byte : ℕ) (reader other : Reader K A)
     (opens : Opens byte follow reader) (is : IsReader follow reader) (other_is : IsReader follow other) where
-
   branch_takes : (bytes rest : List ℕ) (out : Result A (Option K)) → branch byte reader other bytes ≡ answers out rest → (taken : List ℕ) × (bytes ≡ taken ++ rest)
   branch_takes bytes rest out e = go (begins byte bytes) e
     where
@@ -208,7 +216,7 @@ module _ {K A : Type 0} {follow : List ℕ → Type 0} (byte : ℕ) (reader othe
       → branch byte reader other (taken ++ more) ≡ answers out more
   branch_local taken rest more out e same =
       let one : begins byte (taken ++ rest) ≡ begins byte (taken ++ more) =
-          begins-first byte (taken ++ rest) (taken ++ more) (first-append taken rest more same) in
+      begins-first byte (taken ++ rest) (taken ++ more) (first-append taken rest more same) in
       ap (λ b. cond b (reader (taken ++ more)) (other (taken ++ more))) (sym one) ∙ go (begins byte (taken ++ rest)) e
     where
       go : (b : Bool) → cond b (reader (taken ++ rest)) (other (taken ++ rest)) ≡ answers out rest → cond b (reader (taken ++ more)) (other (taken ++ more)) ≡ answers out more
@@ -216,9 +224,12 @@ module _ {K A : Type 0} {follow : List ℕ → Type 0} (byte : ℕ) (reader othe
       go false e = other_is.local taken rest more out e same
 
   branch_viable : (taken rest : List ℕ) (out : Result A (Option K)) → branch byte reader other (taken ++ rest) ≡ answers out rest → Ends follow (branch byte reader other) taken
-  branch_viable [] rest out e =
-      (byte ∷ opens.0, opens.1, λ end fits.
-          ap (λ b. cond b (reader (byte ∷ (opens.0 ++ end))) (other (byte ∷ (opens.0 ++ end)))) (begins-self byte (opens.0 ++ end)) ∙ opens.2 end fits)
+  branch_viable [] rest out e = (
+    byte ∷ opens.0,
+    opens.1,
+    λ end fits.
+        ap (λ b. cond b (reader (byte ∷ (opens.0 ++ end))) (other (byte ∷ (opens.0 ++ end)))) (begins-self byte (opens.0 ++ end)) ∙ opens.2 end fits,
+  )
   branch_viable (c ∷ taken) rest out e = go (eqb c byte) e
     where
       go : (b : Bool) → cond b (reader (c ∷ (taken ++ rest))) (other (c ∷ (taken ++ rest))) ≡ answers out rest
@@ -230,8 +241,12 @@ module _ {K A : Type 0} {follow : List ℕ → Type 0} (byte : ℕ) (reader othe
   branch_is = record { takes = branch_takes; local = branch_local; viable = branch_viable }
 
   pub branch_opens : Opens byte follow (branch byte reader other)
-  branch_opens = (opens.0, opens.1, λ end fits.
-      ap (λ b. cond b (reader (byte ∷ (opens.0 ++ end))) (other (byte ∷ (opens.0 ++ end)))) (begins-self byte (opens.0 ++ end)) ∙ opens.2 end fits)
+  branch_opens = (
+    opens.0,
+    opens.1,
+    λ end fits.
+        ap (λ b. cond b (reader (byte ∷ (opens.0 ++ end))) (other (byte ∷ (opens.0 ++ end)))) (begins-self byte (opens.0 ++ end)) ∙ opens.2 end fits,
+  )
 
 pub opens_starts : {K A : Type 0} {follow : List ℕ → Type 0} (behind : List ℕ → Type 0) (byte : ℕ) (reader : Reader K A)
     → ((rest : List ℕ) → behind (byte ∷ rest)) → Opens byte follow reader → Starts behind follow reader
@@ -240,17 +255,19 @@ opens_starts behind byte reader may opens = (byte ∷ opens.0, opens.1, λ rest 
 pub bind_opens : {K A B : Type 0} (behind follow : List ℕ → Type 0) (byte : ℕ) (reader : Reader K A) (next : A → Reader K B)
     → Opens byte behind reader → ((x : A) → Starts behind follow (next x)) → Opens byte follow (reader >>= next)
 bind_opens behind follow byte reader next opens starts =
-    let then = starts opens.1 in
-    (opens.0 ++ then.0, then.1, λ rest fits.
-        let back = then.2 rest fits in
-        let whole : byte ∷ ((opens.0 ++ then.0) ++ rest) ≡ byte ∷ (opens.0 ++ (then.0 ++ rest)) = ap (λ (t : List ℕ). byte ∷ t) (append_assoc opens.0 then.0 rest) in
-        ap (reader >>= next) whole
-        ∙ then_next reader next (byte ∷ (opens.0 ++ (then.0 ++ rest))) (then.0 ++ rest) opens.1 (answers (Ok then.1) rest) (opens.2 (then.0 ++ rest) back.0) back.1)
+    let then = starts opens.1 in (
+      opens.0 ++ then.0,
+      then.1,
+      λ rest fits.
+          let back = then.2 rest fits in
+          let whole : byte ∷ ((opens.0 ++ then.0) ++ rest) ≡ byte ∷ (opens.0 ++ (then.0 ++ rest)) = ap (λ (t : List ℕ). byte ∷ t) (append_assoc opens.0 then.0 rest) in
+          ap (reader >>= next) whole
+          ∙ then_next reader next (byte ∷ (opens.0 ++ (then.0 ++ rest))) (then.0 ++ rest) opens.1 (answers (Ok then.1) rest) (opens.2 (then.0 ++ rest) back.0) back.1,
+    )
 
 -- ---- scans
 
 module _ {K A S : Type 0} (next : S → ℕ → Option S) (finish : S → Option ℕ → Result A (Option K)) where
-
   pub scan_takes : (state : S) (bytes rest : List ℕ) (out : Result A (Option K)) → scan next finish state bytes ≡ answers out rest → (taken : List ℕ) × (bytes ≡ taken ++ rest)
   scan_takes state [] rest out e = ([], let same : [] ≡ rest = cc in same)
   scan_takes state (byte ∷ bytes) rest out e = go (next state byte) (λ after. scan_takes after bytes rest out) e

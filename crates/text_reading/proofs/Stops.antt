@@ -1,5 +1,5 @@
 -- A stop of a part that is a stop of the whole.
-use Rattle.std.proofs.Common.{◌≡◌, ℕ, List, Option, None, Some, Result, Ok, Err}
+use Rattle.std.proofs.Common.{◌≡◌, ℕ, List, Option, None, Some, Err}
 use Rattle.text_reading.specs.declared.stop.Stop.{Stop}
 use Rattle.text_reading.specs.declared.stop.Stop.TheVariants as stops
 use Rattle.text_reading.specs.Reading.{Answer, Answer.answers}

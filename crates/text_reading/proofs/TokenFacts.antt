@@ -1,18 +1,14 @@
 -- Marks, words and numbers: the four properties of their readers, and that they read what their forms say.
 use Rattle.text_reading.specs.declared.tokens.Spot.{Spot}
 use Rattle.text_reading.specs.declared.tokens.Spot.TheVariants as spots
-use Rattle.std.proofs.Common.{◌≡◌, ◌≢◌, ℕ, zero, suc, ◌+◌, ◌*◌, ◌-◌, ◌<◌, ◌≤◌, List, [], ◌∷◌, ◌++◌, length, Bool, true, false, cond, not, ◌||◌, ◌&&◌, eqb, leb, ltb, Option, None, Some, Result, Ok, Err, refl, sym, ◌∙◌, ap, subst, append_assoc, arith, inl, inr, ◌⊎◌}
-use Rattle.std.specs.Option.{MatchOption}
-use Rattle.std.proofs.lemmas.Bool.{or_parts, and_parts, and_from, and_left, and_right, eqb-true, eqb-false, eq-eqb, ne_eqb, leb-true, le-leb, cases_eq, cases_Bool}
-use Rattle.std.proofs.lemmas.List.{append-nil}
-use Rattle.byte_reading.specs.Decimal.{decimal_text}
-use Rattle.text_reading.specs.Tokens.{is_digit, is_word_byte, is_within, NoneNext, ◌then◌, Blanks, Literal, Mark, WholeWord, Word, Digits, Number}
-use Rattle.text_reading.specs.Reading.{first, Answer, Answer.answers, Reader, done, ◌>>=◌, scan, scan_from, go_on}
+use Rattle.std.proofs.Common.{◌≡◌, ℕ, ◌≤◌, List, [], ◌∷◌, ◌++◌, Bool, true, false, cond, not, ◌||◌, ◌&&◌, eqb, Option, None, Some, Result, Ok, Err, refl, ◌∙◌, ap, subst, append_assoc}
+use Rattle.std.proofs.lemmas.Bool.{and_left, and_right, eqb-true, eq-eqb}
+use Rattle.text_reading.specs.Tokens.{is_digit, is_word_byte, is_within, NoneNext, Blanks, Mark, WholeWord, Word}
+use Rattle.text_reading.specs.Reading.{Answer, Answer.answers, Reader, done, ◌>>=◌, scan, scan_from, go_on}
 use Rattle.text_reading.specs.TokenReading.{token, next_spot, blanks_end, blanks_at, next_literal, literal_end, literal_at, mark_at, word_end, word_end_at, whole_word_at, word_at, longer, next_number, number_end, digits_at, number_at}
 use Rattle.text_reading.proofs.Readers.{Ends, Starts, Opens, IsReader, scan_is, bind_is, bind_read, done_is, then_next}
 use Rattle.text_reading.proofs.Limits.{Passes, Lifts, lifts_itself, lifts_done, bind_lifts, scan_never}
-use Rattle.text_reading.proofs.Decimals.{digit_text, longer_text}
-use Rattle.text_reading.proofs.BlankFacts.{Fresh, blanks_is, blanks_none, blanks_line, blanks_sound, blanks_complete, then_blanks_is, token_is, token_starts, token_reads}
+use Rattle.text_reading.proofs.BlankFacts.{Fresh, blanks_is, blanks_none, blanks_line, blanks_sound, blanks_complete, then_blanks_is, token_is, token_reads}
 
 abbrev unit_answer : (K : Type 0) → Result (Unit {0}) (Option K) → List ℕ → Answer K (Unit {0})
 unit_answer K out rest = answers out rest
@@ -29,12 +25,14 @@ token_sound {K} {A} reader text rest x e = go (reader text) refl e
   where
     then_blanks : A → Reader K A
     then_blanks y = blanks_at >>= λ _. done y
+
     read_blanks : (answer : Answer K (Unit {0})) (y : A) → go_on answer (λ _. done y) ≡ answers (Ok x) rest → (answer ≡ answers (Ok tt) rest) × (y ≡ x)
     read_blanks (answers (Ok unit) left) y e =
         let left_is : left ≡ rest = cc in
         let y_is : y ≡ x = cc in
         (ap (answers (Ok unit)) left_is, y_is)
     read_blanks (answers (Err why) left) y e = absurd cc
+
     go : (answer : Answer K A) → reader text ≡ answer → go_on answer then_blanks ≡ answers (Ok x) rest
         → (between : List ℕ) × (reader text ≡ answers (Ok x) between) × Blanks between rest
     go (answers (Err why) left) was e = absurd cc
@@ -62,7 +60,7 @@ pub token_lifts : {K A : Type 0} {behind : List ℕ → Type 0} (kind : K) (read
 token_lifts {K} {A} {behind} kind reader bare is bare_is line lifts =
     let blanks_behind : A → Reader K A = λ x. blanks_at >>= λ _. done x in
     bind_lifts kind reader bare blanks_behind blanks_behind is (then_blanks_is reader is line) bare_is (then_blanks_is reader is line) lifts
-        (λ x. bind_lifts kind blanks_at blanks_at (λ _. done x) (λ _. done x) blanks_is (λ _. done_is Fresh x) blanks_is (λ _. done_is Fresh x) (blanks_lift kind) (λ _. lifts_done kind x))
+    (λ x. bind_lifts kind blanks_at blanks_at (λ _. done x) (λ _. done x) blanks_is (λ _. done_is Fresh x) blanks_is (λ _. done_is Fresh x) (blanks_lift kind) (λ _. lifts_done kind x))
 
 -- ---- marks
 
@@ -120,7 +118,7 @@ pub mark_lifts : {K : Type 0} (kind : K) (bytes : List ℕ) → Lifts kind (mark
 unfolding mark_at literal_at
 mark_lifts kind bytes =
     token_lifts kind (literal_at bytes) (literal_at bytes) (literal_is bytes) (literal_is bytes) (λ rest. tt)
-        (lifts_itself kind (literal_at bytes) (λ text rest out e p. scan_never kind next_literal literal_end (never_literal kind) text bytes rest out e p))
+    (lifts_itself kind (literal_at bytes) (λ text rest out e p. scan_never kind next_literal literal_end (never_literal kind) text bytes rest out e p))
 
 -- ---- words
 
@@ -167,12 +165,13 @@ whole_word_lifts : {K : Type 0} (kind : K) (bytes : List ℕ) → Lifts kind (wh
 unfolding literal_at word_end_at
 whole_word_lifts {K} kind bytes =
     bind_lifts kind (literal_at bytes) (literal_at bytes) (λ _. word_end_at) (λ _. word_end_at) (literal_is bytes) (λ _. word_end_is) (literal_is bytes) (λ _. word_end_is)
-        (lifts_itself kind (literal_at bytes) (λ text rest out e p. scan_never kind next_literal literal_end (never_literal kind) text bytes rest out e p))
-        (λ _. lifts_itself kind word_end_at (λ text rest out e p. scan_never kind (λ unit byte. None) (λ unit byte. word_end byte) (λ unit byte p. never byte p) text tt rest out e p))
+    (lifts_itself kind (literal_at bytes) (λ text rest out e p. scan_never kind next_literal literal_end (never_literal kind) text bytes rest out e p))
+    (λ _. lifts_itself kind word_end_at (λ text rest out e p. scan_never kind (λ unit byte. None) (λ unit byte. word_end byte) (λ unit byte p. never byte p) text tt rest out e p))
   where
     here : (b : Bool) → Passes {A = Unit {0}} kind (cond b (Err None) (Ok tt)) → ⊥
     here true p = p
     here false p = p
+
     never : (byte : Option ℕ) → Passes kind (word_end byte) → ⊥
     never None p = p
     never (Some byte) p = here (is_word_byte byte) p
@@ -187,10 +186,14 @@ word_lifts kind bytes = token_lifts kind (whole_word_at bytes) (whole_word_at by
 
 pub word_opens : {K : Type 0} (byte : ℕ) (bytes : List ℕ) → Opens byte Fresh (word_at {K = K} (byte ∷ bytes))
 unfolding word_at
-word_opens {K} byte bytes = (bytes ++ (10 ∷ []), tt, λ rest fresh.
-    let whole : byte ∷ ((bytes ++ (10 ∷ [])) ++ rest) ≡ (byte ∷ bytes) ++ (10 ∷ rest) = ap (λ (t : List ℕ). byte ∷ t) (append_assoc bytes (10 ∷ []) rest) in
-    ap (token (whole_word_at (byte ∷ bytes))) whole
-    ∙ token_reads (whole_word_at (byte ∷ bytes)) ((byte ∷ bytes) ++ (10 ∷ rest)) (10 ∷ rest) rest tt (whole_word_reads (byte ∷ bytes) (10 ∷ rest) refl) (blanks_line {K = K} rest fresh))
+word_opens {K} byte bytes = (
+  bytes ++ (10 ∷ []),
+  tt,
+  λ rest fresh.
+      let whole : byte ∷ ((bytes ++ (10 ∷ [])) ++ rest) ≡ (byte ∷ bytes) ++ (10 ∷ rest) = ap (λ (t : List ℕ). byte ∷ t) (append_assoc bytes (10 ∷ []) rest) in
+      ap (token (whole_word_at (byte ∷ bytes))) whole
+      ∙ token_reads (whole_word_at (byte ∷ bytes)) ((byte ∷ bytes) ++ (10 ∷ rest)) (10 ∷ rest) rest tt (whole_word_reads (byte ∷ bytes) (10 ∷ rest) refl) (blanks_line {K = K} rest fresh),
+)
 
 pub word_sound : {K : Type 0} (bytes text rest : List ℕ) → word_at {K = K} bytes text ≡ answers (Ok tt) rest → Word bytes text rest
 unfolding word_at
@@ -219,7 +222,7 @@ module _ {K : Type 0} (limit : Option ℕ) (zero_too : Bool) (kind : K) where
   number_ends n [] ends = refl
   number_ends n (byte ∷ rest) ends =
       let none : (not (eqb n 0) && (is_digit byte && is_within limit (longer n byte))) ≡ false =
-          and_right (not (eqb n 0)) (is_digit byte && is_within limit (longer n byte)) (and_left (is_digit byte) (is_within limit (longer n byte)) ends) in
+      and_right (not (eqb n 0)) (is_digit byte && is_within limit (longer n byte)) (and_left (is_digit byte) (is_within limit (longer n byte)) ends) in
       rw (none, ends) refl
 
   one_reads : (rest : List ℕ) → NoneNext is_digit rest → number_from None (49 ∷ rest) ≡ answers (Ok 1) rest
@@ -243,5 +246,11 @@ module _ {K : Type 0} (limit : Option ℕ) (zero_too : Bool) (kind : K) where
 
   pub number_starts : Starts Fresh Fresh (number_at limit zero_too kind)
   unfolding number_at digits_at
-  number_starts = (49 ∷ 10 ∷ [], 1, λ rest fresh. (refl,
-      token_reads (digits_at limit zero_too kind) (49 ∷ 10 ∷ rest) (10 ∷ rest) rest 1 (one_reads (10 ∷ rest) refl) (blanks_line {K = K} rest fresh)))
+  number_starts = (
+    49 ∷ 10 ∷ [],
+    1,
+    λ rest fresh. (
+      refl,
+      token_reads (digits_at limit zero_too kind) (49 ∷ 10 ∷ rest) (10 ∷ rest) rest 1 (one_reads (10 ∷ rest) refl) (blanks_line {K = K} rest fresh),
+    ),
+  )

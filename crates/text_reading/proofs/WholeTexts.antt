@@ -1,13 +1,13 @@
 -- Whole texts: the items of a text are read exactly, and where reading stops is the place.
-use Rattle.std.proofs.Common.{◌≡◌, ◌≢◌, ◌↔◌, ℕ, zero, suc, ◌+◌, ◌<◌, ◌≤◌, List, [], ◌∷◌, ◌++◌, length, Bool, true, false, cond, Option, None, Some, Result, Ok, Err, refl, sym, ◌∙◌, ap, subst, append_assoc, arith, max}
+use Rattle.std.proofs.Common.{◌≡◌, ◌↔◌, ℕ, zero, suc, ◌+◌, ◌<◌, ◌≤◌, List, [], ◌∷◌, ◌++◌, length, Option, Result, Ok, Err, refl, sym, ◌∙◌, ap, subst, append_assoc, arith}
 use Rattle.std.proofs.lemmas.List.{append-nil, length-append}
-use Rattle.text_reading.specs.Tokens.{Form, Blanks, is_digit}
+use Rattle.text_reading.specs.Tokens.{Form}
 use Rattle.text_reading.specs.Places.{Items, TextOf, Continues, IsPlace, GoesOnWithDigit}
 use Rattle.text_reading.specs.Reading.{first, Answer, Answer.answers, Reader, done, go_on, ◌>>=◌, unless_end, items_within, items_at}
 use Rattle.text_reading.specs.TokenReading.{blanks_at, text_at}
-use Rattle.text_reading.proofs.Readers.{Ends, Starts, IsReader, bind_is, done_is, done_starts, bind_starts, bind_read, then_next, then_stops, not_longer}
+use Rattle.text_reading.proofs.Readers.{Ends, Starts, IsReader, bind_is, done_is, done_starts, bind_read, then_next, then_stops}
 use Rattle.text_reading.proofs.Limits.{Passes, Lifted, Lifted.kept, Lifted.passed, Lifts, lifts_done, bind_lifts}
-use Rattle.text_reading.proofs.BlankFacts.{Fresh, blanks_is, blanks_starts, blanks_sound, blanks_complete}
+use Rattle.text_reading.proofs.BlankFacts.{Fresh, blanks_is, blanks_sound, blanks_complete}
 use Rattle.text_reading.proofs.TokenFacts.{blanks_lift}
 
 abbrev pub AtEnd : List ℕ → Type 0
@@ -26,7 +26,6 @@ abbrev pub Moves : {K A : Type 0} → Reader K A → Type 0
 Moves {K} {A} reader = (text rest : List ℕ) (x : A) → reader text ≡ answers (Ok x) rest → length rest < length text
 
 module _ {K A : Type 0} (item : Reader K A) (is : IsReader Fresh item) where
-
   abbrev more_items : ℕ → A → Reader K (List A)
   more_items most x = items_within item most >>= λ items. done (x ∷ items)
 
@@ -36,8 +35,12 @@ module _ {K A : Type 0} (item : Reader K A) (is : IsReader Fresh item) where
   items_none (suc most) = refl
 
   more_starts : (most : ℕ) (x : A) → Starts Fresh AtEnd (more_items most x)
-  more_starts most x = ([], x ∷ [], λ rest end.
-      (rw end tt, rw end (then_next (items_within item most) (λ items. done (x ∷ items)) [] [] [] (answers (Ok (x ∷ [])) []) (items_none most) refl)))
+  more_starts most x = (
+    [],
+    x ∷ [],
+    λ rest end.
+        (rw end tt, rw end (then_next (items_within item most) (λ items. done (x ∷ items)) [] [] [] (answers (Ok (x ∷ [])) []) (items_none most) refl)),
+  )
 
   end_is : (reader : Reader K (List A)) → IsReader AtEnd reader → IsReader AtEnd (unless_end [] reader)
   end_is reader reader_is = record { takes = end_takes; local = end_local; viable = end_viable }
@@ -45,6 +48,7 @@ module _ {K A : Type 0} (item : Reader K A) (is : IsReader Fresh item) where
       end_takes : (bytes rest : List ℕ) (out : Result (List A) (Option K)) → unless_end [] reader bytes ≡ answers out rest → (taken : List ℕ) × (bytes ≡ taken ++ rest)
       end_takes [] rest out e = ([], cc)
       end_takes (byte ∷ bytes) rest out e = reader_is.takes (byte ∷ bytes) rest out e
+
       end_local : (taken rest other : List ℕ) (out : Result (List A) (Option K)) → unless_end [] reader (taken ++ rest) ≡ answers out rest → first rest ≡ first other
           → unless_end [] reader (taken ++ other) ≡ answers out other
       end_local [] [] [] out e same = e
@@ -52,6 +56,7 @@ module _ {K A : Type 0} (item : Reader K A) (is : IsReader Fresh item) where
       end_local [] (byte ∷ rest) [] out e same = absurd cc
       end_local [] (byte ∷ rest) (c ∷ other) out e same = reader_is.local [] (byte ∷ rest) (c ∷ other) out e same
       end_local (byte ∷ taken) rest other out e same = reader_is.local (byte ∷ taken) rest other out e same
+
       end_viable : (taken rest : List ℕ) (out : Result (List A) (Option K)) → unless_end [] reader (taken ++ rest) ≡ answers out rest → Ends AtEnd (unless_end [] reader) taken
       end_viable [] rest out e = ([], [], λ end at_end. rw at_end refl)
       end_viable (byte ∷ taken) rest out e = reader_is.viable (byte ∷ taken) rest out e
@@ -61,9 +66,9 @@ module _ {K A : Type 0} (item : Reader K A) (is : IsReader Fresh item) where
   within_is zero = done_is AtEnd []
   within_is (suc most) =
       end_is (item >>= more_items most)
-          (bind_is item (more_items most) is
-              (λ x. bind_is (items_within item most) (λ items. done (x ∷ items)) (within_is most) (λ items. done_is AtEnd (x ∷ items)) (λ items. done_starts AtEnd (x ∷ items)))
-              (more_starts most))
+      (bind_is item (more_items most) is
+      (λ x. bind_is (items_within item most) (λ items. done (x ∷ items)) (within_is most) (λ items. done_is AtEnd (x ∷ items)) (λ items. done_starts AtEnd (x ∷ items)))
+      (more_starts most))
 
   abbrev text_within : ℕ → Reader K (List A)
   text_within most = blanks_at >>= λ _. items_within item most
@@ -77,7 +82,6 @@ module _ {K A : Type 0} (item : Reader K A) (is : IsReader Fresh item) where
 -- ---- how many items are read doesn't depend on the bound
 
 module _ {K A : Type 0} (item : Reader K A) (moves : Moves item) where
-
   pub within_any : (most other : ℕ) (text : List ℕ) → length text ≤ most → length text ≤ other → items_within item most text ≡ items_within item other text
   unfolding items_within
   within_any zero zero text short shorter = refl
@@ -121,7 +125,6 @@ module _ {K A : Type 0} (item : Reader K A) (moves : Moves item) where
 -- ---- what is read is the text's, and the text's is read
 
 module _ {K A : Type 0} (item : Reader K A) (form : A → Form) (sound : Sound item form) (complete : Complete item form) (moves : Moves item) where
-
   within_sound : (most : ℕ) (text : List ℕ) (items : List A) → items_within item most text ≡ answers (Ok items) [] → Items form items text
   unfolding items_within
   within_sound zero text items e =
@@ -138,10 +141,11 @@ module _ {K A : Type 0} (item : Reader K A) (form : A → Form) (sound : Sound i
       let end : back.1 ≡ [] = done_left (front.0 ∷ back.0) items back.1 back.3 in
       let others : items_within item most front.1 ≡ answers (Ok back.0) [] = back.2 ∙ ap (answers (Ok back.0)) end in
       subst (λ (l : List A). Items form l (byte ∷ text)) items_is
-          (front.1, sound (byte ∷ text) front.1 front.0 front.2, within_sound most front.1 back.0 others)
+      (front.1, sound (byte ∷ text) front.1 front.0 front.2, within_sound most front.1 back.0 others)
     where
       done_is_read : (x y : List A) (left : List ℕ) → done {K = K} x left ≡ answers (Ok y) [] → x ≡ y
       done_is_read x y left e = cc
+
       done_left : (x y : List A) (left : List ℕ) → done {K = K} x left ≡ answers (Ok y) [] → left ≡ []
       done_left x y left e = cc
 
@@ -159,7 +163,7 @@ module _ {K A : Type 0} (item : Reader K A) (form : A → Form) (sound : Sound i
       let less = moves (byte ∷ text) h.0 x read in
       let others = within_complete most h.0 items (omega arith) h.2 in
       then_next item (λ y. items_within item most >>= λ l. done (y ∷ l)) (byte ∷ text) h.0 x (answers (Ok (x ∷ items)) []) read
-          (then_next (items_within item most) (λ l. done (x ∷ l)) h.0 [] items (answers (Ok (x ∷ items)) []) others refl)
+      (then_next (items_within item most) (λ l. done (x ∷ l)) h.0 [] items (answers (Ok (x ∷ items)) []) others refl)
 
   -- reading ends at the end of the text
   within_all : (most : ℕ) (text rest : List ℕ) (items : List A) → length text ≤ most → items_within item most text ≡ answers (Ok items) rest → rest ≡ []
@@ -178,7 +182,6 @@ module _ {K A : Type 0} (item : Reader K A) (form : A → Form) (sound : Sound i
       left_is x left e = cc
 
 module _ {K A : Type 0} (item : Reader K A) (form : A → Form) (is : IsReader Fresh item) (sound : Sound item form) (complete : Complete item form) (moves : Moves item) where
-
   whole_sound : (most : ℕ) (text : List ℕ) (items : List A) → text_within item is most text ≡ answers (Ok items) [] → TextOf form items text
   whole_sound most text items e =
       let front = bind_read blanks_at (λ _. items_within item most) text [] items e in
@@ -190,7 +193,7 @@ module _ {K A : Type 0} (item : Reader K A) (form : A → Form) (is : IsReader F
       let front = blanks_is.takes text h.0 (Ok tt) blank in
       let less : length h.0 ≤ length text = omega (arith, ap length front.1, length-append front.0 h.0) in
       then_next blanks_at (λ _. items_within item most) text h.0 tt (answers (Ok items) []) blank
-          (within_complete item form sound complete moves most h.0 items (omega arith) h.2)
+      (within_complete item form sound complete moves most h.0 items (omega arith) h.2)
 
   -- what is read is the text's tree
   pub text_sound : (text rest : List ℕ) (items : List A) → text_at item text ≡ answers (Ok items) rest → TextOf form items text × (rest ≡ [])
@@ -227,30 +230,33 @@ module _ {K A : Type 0} (item : Reader K A) (form : A → Form) (is : IsReader F
       let taken = (text_is item is (length text)).takes text rest (Err why) stop in
       let here : text_within item is (length text) (taken.0 ++ rest) ≡ answers (Err why) rest = ap (text_within item is (length text)) (sym taken.1) ∙ stop in
       let ends = (text_is item is (length text)).viable taken.0 rest (Err why) here in
-      let e_here : text_at item (taken.0 ++ rest) ≡ answers (Err why) rest = ap (text_at item) (sym taken.1) ∙ e in
-      (taken.0,
-       record {
-         parts = taken.1;
-         before = (ends.1, ends.0 ++ [], whole_sound (length text) (taken.0 ++ (ends.0 ++ [])) ends.1 (ends.2 [] refl));
-         longest = λ byte more rest_is goes_on. no_continuation taken.0 rest why byte more e_here rest_is goes_on;
-       },
-       λ items h. let read = text_complete text items h in let clash : answers (Err why) rest ≡ answers (Ok items) [] = sym e ∙ read in cc)
+      let e_here : text_at item (taken.0 ++ rest) ≡ answers (Err why) rest = ap (text_at item) (sym taken.1) ∙ e in (
+        taken.0,
+        record {
+          parts = taken.1;
+          before = (ends.1, ends.0 ++ [], whole_sound (length text) (taken.0 ++ (ends.0 ++ [])) ends.1 (ends.2 [] refl));
+          longest = λ byte more rest_is goes_on. no_continuation taken.0 rest why byte more e_here rest_is goes_on;
+        },
+        λ items h. let read = text_complete text items h in let clash : answers (Err why) rest ≡ answers (Ok items) [] = sym e ∙ read in cc,
+      )
 
 -- ---- limits
 
 module _ {K A : Type 0} (kind : K) (item bare : Reader K A) (is : IsReader Fresh item) (bare_is : IsReader Fresh bare) (lifts : Lifts kind item bare) where
-
   end_lifts : (reader other : Reader K (List A)) → Lifts kind reader other → Lifts kind (unless_end [] reader) (unless_end [] other)
   end_lifts reader other reader_lifts = go
     where
       never : (rest : List ℕ) (out : Result (List A) (Option K)) → done {K = K} {A = List A} [] [] ≡ answers out rest → Passes kind out → ⊥
       never rest out e p = let same : out ≡ Ok [] = cc in subst (Passes kind) same p
+
       here : (byte : ℕ) (more : List ℕ) (out : Result (List A) (Option K)) → Lifted kind other [] (byte ∷ more) out → Lifted kind (unless_end [] other) [] (byte ∷ more) out
       here byte more out (kept never same) = kept never same
       here byte more out (passed p digit after rest_is is bare_out same) = passed p digit after rest_is is bare_out same
+
       later : (byte : ℕ) (taken rest : List ℕ) (out : Result (List A) (Option K)) → Lifted kind other (byte ∷ taken) rest out → Lifted kind (unless_end [] other) (byte ∷ taken) rest out
       later byte taken rest out (kept never same) = kept never same
       later byte taken rest out (passed p digit after rest_is is bare_out same) = passed p digit after rest_is is bare_out same
+
       go : Lifts kind (unless_end [] reader) (unless_end [] other)
       go [] [] out e = kept (never [] out e) e
       go [] (byte ∷ more) out e = here byte more out (reader_lifts [] (byte ∷ more) out e)
@@ -261,10 +267,10 @@ module _ {K A : Type 0} (kind : K) (item bare : Reader K A) (is : IsReader Fresh
   within_lifts zero = lifts_done kind []
   within_lifts (suc most) =
       end_lifts (item >>= more_items item is most) (bare >>= more_items bare bare_is most)
-          (bind_lifts kind item bare (more_items item is most) (more_items bare bare_is most) is (more_is item is) bare_is (more_is bare bare_is) lifts
-              (λ x. bind_lifts kind (items_within item most) (items_within bare most) (λ l. done (x ∷ l)) (λ l. done (x ∷ l))
-                  (within_is item is most) (λ l. done_is AtEnd (x ∷ l)) (within_is bare bare_is most) (λ l. done_is AtEnd (x ∷ l))
-                  (within_lifts most) (λ l. lifts_done kind (x ∷ l))))
+      (bind_lifts kind item bare (more_items item is most) (more_items bare bare_is most) is (more_is item is) bare_is (more_is bare bare_is) lifts
+      (λ x. bind_lifts kind (items_within item most) (items_within bare most) (λ l. done (x ∷ l)) (λ l. done (x ∷ l))
+      (within_is item is most) (λ l. done_is AtEnd (x ∷ l)) (within_is bare bare_is most) (λ l. done_is AtEnd (x ∷ l))
+      (within_lifts most) (λ l. lifts_done kind (x ∷ l))))
     where
       more_is : (one : Reader K A) (one_is : IsReader Fresh one) (x : A) → IsReader AtEnd (more_items one one_is most x)
       more_is one one_is x = bind_is (items_within one most) (λ l. done (x ∷ l)) (within_is one one_is most) (λ l. done_is AtEnd (x ∷ l)) (λ l. done_starts AtEnd (x ∷ l))
@@ -272,7 +278,7 @@ module _ {K A : Type 0} (kind : K) (item bare : Reader K A) (is : IsReader Fresh
   text_lifts : (most : ℕ) → Lifts kind (text_within item is most) (text_within bare bare_is most)
   text_lifts most =
       bind_lifts kind blanks_at blanks_at (λ _. items_within item most) (λ _. items_within bare most) blanks_is (λ _. within_is item is most) blanks_is (λ _. within_is bare bare_is most)
-          (blanks_lift kind) (λ _. within_lifts most)
+      (blanks_lift kind) (λ _. within_lifts most)
 
 -- A stop is one of this kind if and only if the next byte is a digit with which some text goes on in the language
 -- where this kind of number has no limit.
@@ -285,21 +291,29 @@ text_limit {K} {A} kind item bare bare_form is moves bare_is sound complete bare
   where
     most : ℕ
     most = length (front ++ rest)
+
     stop : text_within item is most (front ++ rest) ≡ answers (Err why) rest
     stop = sym (text_any item moves is (front ++ rest) most (omega arith)) ∙ e
+
     go : Lifted kind (text_within bare bare_is most) front rest (Err why) → Passes {A = List A} kind (Err why) ↔ GoesOnWithDigit (TextOf bare_form) front rest
     go (kept never same) =
-        let bare_stop : text_at bare (front ++ rest) ≡ answers (Err why) rest = text_any bare bare_moves bare_is (front ++ rest) most (omega arith) ∙ same in
-        (λ p. absurd (never p),
-         λ goes. absurd (no_continuation bare bare_form bare_is sound complete bare_moves front rest why goes.digit goes.more bare_stop goes.next goes.goes_on))
+        let bare_stop : text_at bare (front ++ rest) ≡ answers (Err why) rest = text_any bare bare_moves bare_is (front ++ rest) most (omega arith) ∙ same in (
+          λ p. absurd (never p),
+          λ goes. absurd (no_continuation bare bare_form bare_is sound complete bare_moves front rest why goes.digit goes.more bare_stop goes.next goes.goes_on),
+        )
     go (passed p digit more rest_is is_one bare_out same) =
         let whole : (front ++ (digit ∷ [])) ++ [] ≡ front ++ (digit ∷ []) = append-nil (front ++ (digit ∷ [])) in
         let left = ap (text_within bare bare_is most) whole ∙ same in
-        let ends = (text_is bare bare_is most).viable (front ++ (digit ∷ [])) [] bare_out left in
-        (λ _. record {
-          digit = digit; more = more; next = rest_is; is_digit = is_one;
-          goes_on = (ends.1, ends.0 ++ [], whole_sound bare bare_form bare_is sound complete bare_moves most ((front ++ (digit ∷ [])) ++ (ends.0 ++ [])) ends.1 (ends.2 [] refl));
-        }, λ _. p)
+        let ends = (text_is bare bare_is most).viable (front ++ (digit ∷ [])) [] bare_out left in (
+          λ _. record {
+            digit = digit;
+            more = more;
+            next = rest_is;
+            is_digit = is_one;
+            goes_on = (ends.1, ends.0 ++ [], whole_sound bare bare_form bare_is sound complete bare_moves most ((front ++ (digit ∷ [])) ++ (ends.0 ++ [])) ends.1 (ends.2 [] refl));
+          },
+          λ _. p,
+        )
 
 -- ---- items, read one after another
 

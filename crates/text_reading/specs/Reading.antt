@@ -1,6 +1,6 @@
 -- Readers of texts as functions on the bytes. A reader takes bytes from the head of a text, and answers a tree or
 -- why it stops, with the bytes that are left.
-use Rattle.std.specs.Prelude.{◌≡◌, ℕ, zero, suc, List, [], ◌∷◌, length, Bool, true, false, cond, ◌==◌, Option, None, Some, Result, Ok, Err}
+use Rattle.std.specs.Prelude.{ℕ, zero, suc, List, [], ◌∷◌, length, Bool, false, cond, ◌==◌, Option, None, Some, Result, Ok, Err}
 
 -- the byte that is next
 abbrev pub first : List ℕ → Option ℕ

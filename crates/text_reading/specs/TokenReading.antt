@@ -1,8 +1,8 @@
 -- Readers of the tokens, each a scan.
 use Rattle.text_reading.specs.declared.tokens.Spot.{Spot}
 use Rattle.text_reading.specs.declared.tokens.Spot.TheVariants as spots
-use Rattle.std.specs.Prelude.{ℕ, ◌+◌, ◌-◌, ◌*◌, List, [], ◌∷◌, Bool, true, false, cond, not, ◌&&◌, ◌||◌, ◌==◌, Option, None, Some, Result, Ok, Err}
-use Rattle.text_reading.specs.Reading.{Answer, Answer.answers, Reader, done, ◌>>=◌, scan, items_at}
+use Rattle.std.specs.Prelude.{ℕ, ◌+◌, ◌-◌, ◌*◌, List, [], ◌∷◌, Bool, cond, not, ◌&&◌, ◌||◌, ◌==◌, Option, None, Some, Result, Ok, Err}
+use Rattle.text_reading.specs.Reading.{Answer.answers, Reader, done, ◌>>=◌, scan, items_at}
 use Rattle.text_reading.specs.Tokens.{is_blank, is_digit, is_word_byte, is_within}
 
 -- ---- blanks

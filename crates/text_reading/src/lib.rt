@@ -11,3 +11,6 @@ mod tokens;
 pub use place::Place;
 pub use stop::Stop;
 pub use tokens::{blanks, is_next, mark, number, word};
+
+#[cfg(test)]
+mod tests;

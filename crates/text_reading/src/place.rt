@@ -39,5 +39,9 @@ fn last_line(bytes: &[u8]) -> usize
     ensures count { result ≡ length (take_while (λ byte. not (byte == 10)) (reverse bytes.now)) }
     ensures bound { result ≤ length bytes.now }
 {
-    bytes.iter().rev().take_while(|byte| **byte != b'\n').count()
+    bytes
+        .iter()
+        .rev()
+        .take_while(|byte| **byte != b'\n')
+        .count()
 }

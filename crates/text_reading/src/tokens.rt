@@ -122,7 +122,10 @@ pub fn mark<K>(rest: &mut &[u8], bytes: &[u8]) -> Result<(), Stop<K>>
 fn is_word_byte(byte: u8) -> bool
     ensures { result ≡ is_word_byte byte }
 {
-    (b'A' <= byte && byte <= b'Z') || (b'a' <= byte && byte <= b'z') || is_digit(byte) || byte == b'_'
+    (b'A' <= byte && byte <= b'Z')
+        || (b'a' <= byte && byte <= b'z')
+        || is_digit(byte)
+        || byte == b'_'
 }
 
 /// Whether the byte is a digit.
@@ -190,7 +193,12 @@ fn first_digit<K>(rest: &mut &[u8], zero_too: bool) -> Result<u128, Stop<K>>
 
 /// The digits of a number.
 #[tactic(auto, unfolding(crate::specs::TokenReading::digits_at))]
-fn digits<K: Copy>(rest: &mut &[u8], greatest: u128, zero_too: bool, kind: K) -> Result<u128, Stop<K>>
+fn digits<K: Copy>(
+    rest: &mut &[u8],
+    greatest: u128,
+    zero_too: bool,
+    kind: K,
+) -> Result<u128, Stop<K>>
     requires { 9 ≤ greatest }
     ensures within { IfOk result (λ n. n ≤ greatest) }
     ensures read { Gives (λ n. n) result rest.new.now (digits_at (Some (greatest + 1)) zero_too kind rest.old.now) }
@@ -216,7 +224,12 @@ fn digits<K: Copy>(rest: &mut &[u8], greatest: u128, zero_too: bool, kind: K) ->
 /// Where `zero_too` isn't set, the number is no 0. `kind` goes into the stop where a digit makes it pass `greatest`,
 /// which no first digit does.
 #[tactic(auto, unfolding(crate::specs::TokenReading::number_at))]
-pub fn number<K: Copy>(rest: &mut &[u8], greatest: u128, zero_too: bool, kind: K) -> Result<u128, Stop<K>>
+pub fn number<K: Copy>(
+    rest: &mut &[u8],
+    greatest: u128,
+    zero_too: bool,
+    kind: K,
+) -> Result<u128, Stop<K>>
     requires { 9 ≤ greatest }
     ensures within { IfOk result (λ n. n ≤ greatest) }
     ensures read { Gives (λ n. n) result rest.new.now (number_at (Some (greatest + 1)) zero_too kind rest.old.now) }

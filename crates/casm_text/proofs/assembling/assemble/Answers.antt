@@ -20,10 +20,12 @@ returns-else-is_short-clause-only c = λ other h short.
     absurd (is_long c.instrs.result.now c.if-is_short.ensures (subst IsShort (sym c.instrs.ensures.instrs) (subst IsShort (sym same) short)))
 
 pub returns-else-is_short-clause-refused : goal.returns-else-is_short-clause-refused
-returns-else-is_short-clause-refused c = λ some.
-    (c.in-Ok.code, read_code c.args.text.now c.code.new.rest.now c.in-Ok.code c.in-Ok.ensures,
-        let short_code : IsShort c.in-Ok.code → ⊥ = λ short. is_long c.instrs.result.now c.if-is_short.ensures (subst IsShort (sym c.instrs.ensures.instrs) short) in
-        omega (arith, short_code))
+returns-else-is_short-clause-refused c = λ some. (
+  c.in-Ok.code,
+  read_code c.args.text.now c.code.new.rest.now c.in-Ok.code c.in-Ok.ensures,
+  let short_code : IsShort c.in-Ok.code → ⊥ = λ short. is_long c.instrs.result.now c.if-is_short.ensures (subst IsShort (sym c.instrs.ensures.instrs) short) in
+      omega (arith, short_code),
+)
 
 pub returns-else-is_short-clause-exact : goal.returns-else-is_short-clause-exact
 returns-else-is_short-clause-exact c = long_refused c.args.text.now c.code.new.rest.now c.in-Ok.code c.in-Ok.ensures

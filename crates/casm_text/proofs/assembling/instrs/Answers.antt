@@ -16,8 +16,8 @@ returns-in_err-i c =
     let some : length c.loop-rest.rest.now ≢ 0 = eqb-false _ _ (sym c.loop-rest-test.ensures) in
     let above : 0 < length c.loop-rest.rest.now = omega arith in
     rw (p.1, p.2) (gives_stop (λ i. i) (λ code. code) c.in_err-i.field-0.0 c.instr.new.rest.now (instr_at standard c.loop-rest.rest.now) (items_at (instr_at standard) c.args.rest.now.now)
-        (λ why e. sym c.loop-rest.invariant ∙ items_stop (instr_at standard) standard_moves c.loop-rest.code c.loop-rest.rest.now c.instr.new.rest.now why above e)
-        c.in_err-i.ensures)
+    (λ why e. sym c.loop-rest.invariant ∙ items_stop (instr_at standard) standard_moves c.loop-rest.code c.loop-rest.rest.now c.instr.new.rest.now why above e)
+    c.in_err-i.ensures)
 
 pub push-requires : goal.push-requires
 push-requires c = instr_in_field c.loop-rest.rest.now c.instr.new.rest.now c.in_ok-i.i c.in_ok-i.ensures
@@ -30,7 +30,7 @@ loop-rest-preserved c =
     let some : length c.loop-rest.rest.now ≢ 0 = eqb-false _ _ (sym c.loop-rest-test.ensures) in
     let above : 0 < length c.loop-rest.rest.now = omega arith in
     rw c.in_ok-push.ensures.ok
-        (sym (items_more (instr_at standard) standard_moves c.loop-rest.code c.loop-rest.rest.now c.instr.new.rest.now c.in_ok-i.i above c.in_ok-i.ensures) ∙ c.loop-rest.invariant)
+    (sym (items_more (instr_at standard) standard_moves c.loop-rest.code c.loop-rest.rest.now c.instr.new.rest.now c.in_ok-i.i above c.in_ok-i.ensures) ∙ c.loop-rest.invariant)
 
 pub returns : goal.returns
 returns c =

@@ -1,4 +1,4 @@
-use Rattle.std.proofs.Common.{◌≡◌, ◌∙◌, sym, ap, List, ℕ}
+use Rattle.std.proofs.Common.{◌∙◌, sym, ap, List, ℕ}
 use Rattle.std.proofs.lemmas.List.{nil_from_length}
 use Rattle.text_reading.specs.TokenReading.{literal_at}
 use Rattle.text_reading.proofs.TokenFacts.{literal_from, literal_end_here}
