@@ -17,7 +17,7 @@ use Rattle.casm_text.specs.declared.fault.AsmFault.TheVariants as faults
 use Rattle.casm_text.specs.Text.{Text, standard, without}
 use Rattle.casm_text.specs.Reading.{code_at}
 use Rattle.casm_text.specs.Refusals.{word_count, IsShort, place_behind, refusal_of, Ends, PassesLimit, Refused}
-use Rattle.casm_text.proofs.Laws.{code_sound, code_complete, code_place, code_limit}
+use Rattle.casm_text.proofs.CodeReading.{code_sound, code_complete, code_place, code_limit}
 
 -- ---- a text of code
 
@@ -162,3 +162,19 @@ module _ (text rest : List ℕ) where
 -- code of which a test says that it isn't short
 pub is_long : (code : List Instr) → IsTrue false ↔ IsShort code → IsShort code → ⊥
 is_long code test short = let clash : false ≡ true = test.1 short in cc
+
+-- ---- laws
+
+pub one_code : (a b : List Instr) (text : List ℕ) → Text standard a text → Text standard b text → a ≡ b
+one_code a b text h k = same_code text [] a (code_complete text a h) b k
+
+pub one_refusal : (text : List ℕ) (a b : AsmFault) → Refused text a → Refused text b → a ≡ b
+one_refusal text a b h k = go (code_at standard text) refl
+  where
+    too_long : (fault : AsmFault) → (faults.TooLong ≡ fault) ⊎ (faults.TooLong ≡ faults.Memory) → faults.TooLong ≡ fault
+    too_long fault (inl same) = same
+    too_long fault (inr clash) = absurd cc
+
+    go : (answer : Answer NumberKind (List Instr)) → code_at standard text ≡ answer → a ≡ b
+    go (answers (Ok code) rest) read = sym (too_long a (long_refused text rest code read a h)) ∙ too_long b (long_refused text rest code read b k)
+    go (answers (Err why) rest) read = sym (only_refused text rest why read a h) ∙ only_refused text rest why read b k

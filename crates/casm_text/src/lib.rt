@@ -6,11 +6,13 @@
 
 mod assembling;
 mod fault;
+mod laws;
 mod printing;
 mod reading;
 
 pub use assembling::assemble;
 pub use fault::{AsmFault, NumberKind};
+pub use laws::{one_code, one_refusal, printed_is_text};
 pub use printing::print;
 
 #[cfg(test)]

@@ -9,3 +9,4 @@ pub mod Languages
 pub mod Exact
 pub mod Stops
 pub mod OnePlace
+pub mod Written

@@ -7,7 +7,7 @@ use Rattle.text_reading.proofs.WholeTexts.{items_end, items_stop, items_more}
 use Rattle.text_reading.proofs.Stops.{gives_stop}
 use Rattle.casm_text.specs.Text.{standard}
 use Rattle.casm_text.specs.Reading.{instr_at}
-use Rattle.casm_text.proofs.Laws.{instr_in_field, standard_moves}
+use Rattle.casm_text.proofs.CodeReading.{instr_in_field, standard_moves}
 use Rattle.casm_text.proofs.assembling.instrs.Goals as goal
 
 pub returns-in_err-i : goal.returns-in_err-i
