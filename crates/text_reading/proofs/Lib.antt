@@ -1,0 +1,12 @@
+pub mod Readers
+pub mod Limits
+pub mod Decimals
+pub mod BlankFacts
+pub mod TokenFacts
+pub mod NumberFacts
+pub mod WholeTexts
+pub mod Languages
+pub mod Exact
+pub mod Stops
+pub mod OnePlace
+pub mod Written

@@ -1,0 +1,5 @@
+pub mod Tokens
+pub mod Places
+pub mod Reading
+pub mod TokenReading
+pub mod Given
