@@ -47,6 +47,7 @@ magic_stays at bytes more short isnt = rw (not_behind (starts_with nat_eq (bytes
     not_behind : (b : Bool) → starts_with nat_eq (bytes ++ more) magic ≡ b → starts_with nat_eq (bytes ++ more) magic ≡ false
     not_behind true is = absurd (begins_not bytes more short isnt _ ((starts_is {E = nat_eq} Decides-eqb (bytes ++ more) magic (starts_with nat_eq (bytes ++ more) magic) refl).0 is))
     not_behind false is = is
+
     not_before : (b : Bool) → starts_with nat_eq magic (bytes ++ more) ≡ b → starts_with nat_eq magic (bytes ++ more) ≡ false
     not_before true is = absurd (false≢true (sym isnt ∙ (starts_is {E = nat_eq} Decides-eqb magic bytes (starts_with nat_eq magic bytes) refl).1 _ ((starts_is {E = nat_eq} Decides-eqb magic (bytes ++ more) (starts_with nat_eq magic (bytes ++ more)) refl).0 is ∙ append_assoc bytes more _)))
     not_before false is = is

@@ -95,6 +95,6 @@ listing_again l fits rising =
     let ended = counted_again (λ (_ : ℕ). state_at) (λ (_ : State). 0) state (λ (_ : ℕ). IsState) (λ (_ : ℕ). state_again) 0 l.states (in_turn_states 0 l.states fits.states) steps.0 [] in
     let some : (length l.states - 1) + 1 ≡ length l.states = omega (arith, fits.some_state) in
     let last : states_at ((length l.states - 1) + 1) (record { at = steps.0; rest = states }) ≡ Ok (l.states, record { at = ended.0; rest = [] }) =
-        ap (λ (n : ℕ). states_at n (record { at = steps.0; rest = states })) some ∙ (ap (λ (t : List ℕ). states_at (length l.states) (record { at = steps.0; rest = t })) (sym (append-nil states)) ∙ ended.1) in
+    ap (λ (n : ℕ). states_at n (record { at = steps.0; rest = states })) some ∙ (ap (λ (t : List ℕ). states_at (length l.states) (record { at = steps.0; rest = t })) (sym (append-nil states)) ∙ ended.1) in
     ap (λ (bytes : List ℕ). listing_at (record { at = 0; rest = bytes })) regrouped
     ∙ reads _ (record { at = 8; rest = b0 }) _ _ _ _ l.rc (length l.cells) (length l.states - 1) l.cells l.states ended.0 (magic_step 0 b0) rc.1 count.1 cells.1 steps.1 last
