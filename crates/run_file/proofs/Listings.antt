@@ -1,10 +1,10 @@
 -- The two laws of the whole file: what is read is spelled so, and what is spelled so is read.
-use Rattle.std.proofs.Common.{◌≡◌, ℕ, ◌+◌, ◌-◌, cond, eqb, List, [], ◌++◌, length, Result, Ok, Err, refl, sym, ap, subst, ◌∙◌, append_assoc, arith}
+use Rattle.std.proofs.Common.{◌≡◌, ℕ, ◌+◌, ◌-◌, eqb, List, [], ◌++◌, length, Result, Ok, refl, sym, ap, subst, ◌∙◌, append_assoc, arith}
 use Rattle.std.specs.List.{flat_map}
 use Rattle.std.proofs.lemmas.Bool.{eqb-true}
 use Rattle.std.proofs.lemmas.List.{append-nil, nil_from_length}
 use Rattle.byte_reading.specs.Reading.{Place, ◌>>=◌}
-use Rattle.byte_reading.proofs.ReadingLaws.{IsBytes, bind_ok, guard_passed, Takes, Takes-then, Again, number_takes, number_again, counted_take, counted_again}
+use Rattle.byte_reading.proofs.ReadingLaws.{IsBytes, bind_ok, guard_passed, Takes-then, number_takes, number_again, counted_take, counted_again}
 use Rattle.ro_machine.specs.declared.machine.State.{State}
 use Rattle.run_file.specs.declared.refusal.FileRefusal.{FileRefusal}
 use Rattle.run_file.specs.declared.refusal.FileRefusal.TheVariants as refusals

@@ -1,23 +1,23 @@
 -- Each stage reads the number that comes next, and the rest is read from the stage behind it.
-use Rattle.std.proofs.Common.{◌≡◌, ◌≢◌, ℕ, Bool, true, false, zero, suc, ◌+◌, ◌^◌, ◌<◌, ◌≤◌, cond, ltb, List, [], ◌∷◌, ◌++◌, length, take, drop, Result, Ok, Err, refl, sym, ap, ◌∙◌, append_assoc, add-one, arith}
+use Rattle.std.proofs.Common.{◌≡◌, ◌≢◌, ℕ, Bool, true, false, ◌+◌, ◌^◌, ◌<◌, ◌≤◌, ltb, List, [], ◌∷◌, ◌++◌, length, take, Result, Ok, Err, refl, sym, ap, ◌∙◌, append_assoc, add-one, arith}
 use Rattle.std.specs.Prelude.{nat_eq}
 use Rattle.std.specs.Int.{w64, from_le_bytes}
 use Rattle.std.specs.List.{starts_with}
-use Rattle.std.proofs.lemmas.Bool.{ltb-false, lt-ltb, le-ltb, ne_eqb}
+use Rattle.std.proofs.lemmas.Bool.{lt-ltb, le-ltb, ne_eqb}
 use Rattle.std.proofs.lemmas.List.{append-nil, take_at, length-append}
 use Rattle.std.proofs.lemmas.Bool.Decides.{Decides-eqb}
 use Rattle.std.proofs.lemmas.Slice.Eq.{starts_is}
 use Rattle.felt64.specs.Field.{modulus}
 use Rattle.byte_reading.specs.Reading.{Place, ◌>>=◌, counted}
-use Rattle.byte_reading.proofs.ReadingLaws.{number_step, bind_bind}
+use Rattle.byte_reading.proofs.ReadingLaws.{number_step}
 use Rattle.ro_machine.specs.declared.machine.State.{State}
 use Rattle.run_file.specs.declared.refusal.FileRefusal.{FileRefusal}
 use Rattle.run_file.specs.declared.refusal.FileRefusal.TheVariants as refusals
 use Rattle.run_file.specs.declared.stage.Stage.TheVariants as stages
 use Rattle.run_file.specs.declared.stage.Meaning.TheVariants as meanings
 use Rattle.run_file.specs.Spelling.{magic, Listing}
-use Rattle.run_file.specs.Reading.{magic_at, number_at, word_at, address_at, cell_at, cells_at, steps_at, state_at, states_at, ends_at}
-use Rattle.run_file.specs.Stages.{with_cells, with_states, from_cells, from_steps, from_states, from_count, from_word, from_stage}
+use Rattle.run_file.specs.Reading.{magic_at, word_at, address_at, cell_at, cells_at, steps_at, state_at, states_at, ends_at}
+use Rattle.run_file.specs.Stages.{with_cells, with_states, from_cells, from_steps, from_states, from_word, from_stage}
 
 pub word_step : (at : ℕ) (number more : List ℕ) → length number ≡ 8 → from_le_bytes w64 number < modulus → word_at (record { at = at; rest = number ++ more }) ≡ Ok (from_le_bytes w64 number, record { at = at + 8; rest = more })
 unfolding word_at

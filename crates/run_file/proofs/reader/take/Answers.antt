@@ -1,7 +1,6 @@
-use Rattle.std.proofs.Common.{◌≡◌, ◌+◌, ◌++◌, List, ℕ, length, refl, sym, ap, ◌∙◌, append_assoc, length-append, arith}
+use Rattle.std.proofs.Common.{◌++◌, length, sym, ap, ◌∙◌, arith}
 use Rattle.std.proofs.lemmas.Result.{err_from_is_err_and}
-use Rattle.run_file.specs.Progress.{rest_of}
-use Rattle.run_file.proofs.FeedLaws.{eight_behind, goes_on, refused_behind, none_behind}
+use Rattle.run_file.proofs.FeedLaws.{eight_behind, goes_on, refused_behind}
 use Rattle.run_file.proofs.reader.take.Goals as goal
 
 pub take-requires-clause-offset : goal.take-requires-clause-offset
