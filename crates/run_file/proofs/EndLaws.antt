@@ -1,24 +1,22 @@
 -- What a file says that ends, with too few bytes behind the last number for another one.
-use Rattle.std.proofs.Common.{◌≡◌, ◌≢◌, ℕ, ◌+◌, ◌<◌, ◌≤◌, Bool, true, false, cond, ltb, List, [], ◌∷◌, ◌++◌, length, take, drop, Result, Ok, Err, refl, sym, ap, ◌∙◌, append_assoc, arith}
+use Rattle.std.proofs.Common.{◌≡◌, ℕ, ◌+◌, ◌<◌, Bool, true, false, ltb, List, [], ◌++◌, length, take, drop, Ok, Err, refl, sym, ap, ◌∙◌, append_assoc, arith}
 use Rattle.std.specs.Prelude.{nat_eq}
 use Rattle.std.specs.List.{starts_with}
 use Rattle.std.proofs.lemmas.Bool.{lt-ltb, ne_eqb, false≢true}
 use Rattle.std.proofs.lemmas.Bool.Decides.{Decides-eqb}
-use Rattle.std.proofs.lemmas.List.{take_at, take-append-le, take-append-drop, append-nil, length-append, nil_from_length}
+use Rattle.std.proofs.lemmas.List.{take_at, take-append-le, take-append-drop, append-nil, length-append}
 use Rattle.std.proofs.lemmas.Slice.Eq.{starts_is}
 use Rattle.byte_reading.specs.Reading.{Place, ◌>>=◌}
-use Rattle.run_file.specs.declared.refusal.FileRefusal.{FileRefusal}
 use Rattle.run_file.specs.declared.refusal.FileRefusal.TheVariants as refusals
 use Rattle.run_file.specs.declared.stage.Stage.{Stage}
 use Rattle.run_file.specs.declared.stage.Stage.TheVariants as stages
-use Rattle.run_file.specs.declared.stage.Meaning.TheVariants as meanings
 use Rattle.run_file.specs.Spelling.{magic, Listing}
 use Rattle.std.specs.FinMap.{entries}
 use Rattle.run_file.specs.declared.progress.Progress.{Progress}
 use Rattle.run_file.specs.Progress.{rest_of, IsStart}
 use Rattle.run_file.proofs.Order.{entries-empty}
 use Rattle.run_file.specs.Reading.{run_of, reading, magic_at, word_at, address_at, steps_at, ends_at, listing_at}
-use Rattle.run_file.specs.Stages.{nothing, from_cells, from_steps, from_states, from_count, from_word, from_stage}
+use Rattle.run_file.specs.Stages.{nothing, from_cells, from_steps, from_states, from_count, from_stage}
 
 pub not_whole : (bytes : List ℕ) → length bytes < 8 → starts_with nat_eq bytes magic ≡ false
 not_whole bytes short = test (starts_with nat_eq bytes magic) refl
@@ -47,6 +45,7 @@ magic_stays at bytes more short isnt = rw (not_behind (starts_with nat_eq (bytes
     not_behind : (b : Bool) → starts_with nat_eq (bytes ++ more) magic ≡ b → starts_with nat_eq (bytes ++ more) magic ≡ false
     not_behind true is = absurd (begins_not bytes more short isnt _ ((starts_is {E = nat_eq} Decides-eqb (bytes ++ more) magic (starts_with nat_eq (bytes ++ more) magic) refl).0 is))
     not_behind false is = is
+
     not_before : (b : Bool) → starts_with nat_eq magic (bytes ++ more) ≡ b → starts_with nat_eq magic (bytes ++ more) ≡ false
     not_before true is = absurd (false≢true (sym isnt ∙ (starts_is {E = nat_eq} Decides-eqb magic bytes (starts_with nat_eq magic bytes) refl).1 _ ((starts_is {E = nat_eq} Decides-eqb magic (bytes ++ more) (starts_with nat_eq magic (bytes ++ more)) refl).0 is ∙ append_assoc bytes more _)))
     not_before false is = is

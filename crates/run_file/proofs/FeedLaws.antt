@@ -69,7 +69,7 @@ same_refusal (Err refusals.Memory) = refl
 pub answer_ok : (old new : Progress) (unfinished kept piece : List ℕ) → ((more : List ℕ) → rest_of new (kept ++ more) ≡ rest_of old (unfinished ++ (piece ++ more))) → refusal_in (rest_of new kept) ≡ Ok tt → refusal_in (rest_of old (unfinished ++ piece) >>= λ l. Ok (run_of l)) ≡ Ok tt
 answer_ok old new unfinished kept piece rest waits =
     let same : rest_of new kept ≡ rest_of old (unfinished ++ piece) =
-        ap (rest_of new) (sym (append-nil kept)) ∙ (rest [] ∙ ap (λ (t : List ℕ). rest_of old (unfinished ++ t)) (append-nil piece)) in
+    ap (rest_of new) (sym (append-nil kept)) ∙ (rest [] ∙ ap (λ (t : List ℕ). rest_of old (unfinished ++ t)) (append-nil piece)) in
     same_refusal (rest_of old (unfinished ++ piece)) ∙ (ap refusal_in (sym same) ∙ waits)
 
 pub answer_err : (old : Progress) (unfinished piece : List ℕ) (e : FileRefusal) → IsFinal e → ((more : List ℕ) → rest_of old (unfinished ++ (piece ++ more)) ≡ Err e) → refusal_in (rest_of old (unfinished ++ piece) >>= λ l. Ok (run_of l)) ≡ Err e

@@ -5,3 +5,4 @@ pub mod FeedLaws
 pub mod Fields
 pub mod Listings
 pub mod Runs
+pub mod Writing

@@ -1,10 +1,10 @@
 -- The two laws of the whole file: what is read is spelled so, and what is spelled so is read.
-use Rattle.std.proofs.Common.{◌≡◌, ℕ, ◌+◌, ◌-◌, cond, eqb, List, [], ◌++◌, length, Result, Ok, Err, refl, sym, ap, subst, ◌∙◌, append_assoc, arith}
+use Rattle.std.proofs.Common.{◌≡◌, ℕ, ◌+◌, ◌-◌, eqb, List, [], ◌++◌, length, Result, Ok, refl, sym, ap, subst, ◌∙◌, append_assoc, arith}
 use Rattle.std.specs.List.{flat_map}
 use Rattle.std.proofs.lemmas.Bool.{eqb-true}
 use Rattle.std.proofs.lemmas.List.{append-nil, nil_from_length}
 use Rattle.byte_reading.specs.Reading.{Place, ◌>>=◌}
-use Rattle.byte_reading.proofs.ReadingLaws.{IsBytes, bind_ok, guard_passed, Takes, Takes-then, Again, number_takes, number_again, counted_take, counted_again}
+use Rattle.byte_reading.proofs.ReadingLaws.{IsBytes, bind_ok, guard_passed, Takes-then, number_takes, number_again, counted_take, counted_again}
 use Rattle.ro_machine.specs.declared.machine.State.{State}
 use Rattle.run_file.specs.declared.refusal.FileRefusal.{FileRefusal}
 use Rattle.run_file.specs.declared.refusal.FileRefusal.TheVariants as refusals
@@ -95,6 +95,6 @@ listing_again l fits rising =
     let ended = counted_again (λ (_ : ℕ). state_at) (λ (_ : State). 0) state (λ (_ : ℕ). IsState) (λ (_ : ℕ). state_again) 0 l.states (in_turn_states 0 l.states fits.states) steps.0 [] in
     let some : (length l.states - 1) + 1 ≡ length l.states = omega (arith, fits.some_state) in
     let last : states_at ((length l.states - 1) + 1) (record { at = steps.0; rest = states }) ≡ Ok (l.states, record { at = ended.0; rest = [] }) =
-        ap (λ (n : ℕ). states_at n (record { at = steps.0; rest = states })) some ∙ (ap (λ (t : List ℕ). states_at (length l.states) (record { at = steps.0; rest = t })) (sym (append-nil states)) ∙ ended.1) in
+    ap (λ (n : ℕ). states_at n (record { at = steps.0; rest = states })) some ∙ (ap (λ (t : List ℕ). states_at (length l.states) (record { at = steps.0; rest = t })) (sym (append-nil states)) ∙ ended.1) in
     ap (λ (bytes : List ℕ). listing_at (record { at = 0; rest = bytes })) regrouped
     ∙ reads _ (record { at = 8; rest = b0 }) _ _ _ _ l.rc (length l.cells) (length l.states - 1) l.cells l.states ended.0 (magic_step 0 b0) rc.1 count.1 cells.1 steps.1 last

@@ -1,23 +1,23 @@
 -- Each stage reads the number that comes next, and the rest is read from the stage behind it.
-use Rattle.std.proofs.Common.{◌≡◌, ◌≢◌, ℕ, Bool, true, false, zero, suc, ◌+◌, ◌^◌, ◌<◌, ◌≤◌, cond, ltb, List, [], ◌∷◌, ◌++◌, length, take, drop, Result, Ok, Err, refl, sym, ap, ◌∙◌, append_assoc, add-one, arith}
+use Rattle.std.proofs.Common.{◌≡◌, ◌≢◌, ℕ, Bool, true, false, ◌+◌, ◌^◌, ◌<◌, ◌≤◌, ltb, List, [], ◌∷◌, ◌++◌, length, take, Result, Ok, Err, refl, sym, ap, ◌∙◌, append_assoc, add-one, arith}
 use Rattle.std.specs.Prelude.{nat_eq}
 use Rattle.std.specs.Int.{w64, from_le_bytes}
 use Rattle.std.specs.List.{starts_with}
-use Rattle.std.proofs.lemmas.Bool.{ltb-false, lt-ltb, le-ltb, ne_eqb}
+use Rattle.std.proofs.lemmas.Bool.{lt-ltb, le-ltb, ne_eqb}
 use Rattle.std.proofs.lemmas.List.{append-nil, take_at, length-append}
 use Rattle.std.proofs.lemmas.Bool.Decides.{Decides-eqb}
 use Rattle.std.proofs.lemmas.Slice.Eq.{starts_is}
 use Rattle.felt64.specs.Field.{modulus}
 use Rattle.byte_reading.specs.Reading.{Place, ◌>>=◌, counted}
-use Rattle.byte_reading.proofs.ReadingLaws.{number_step, bind_bind}
+use Rattle.byte_reading.proofs.ReadingLaws.{number_step}
 use Rattle.ro_machine.specs.declared.machine.State.{State}
 use Rattle.run_file.specs.declared.refusal.FileRefusal.{FileRefusal}
 use Rattle.run_file.specs.declared.refusal.FileRefusal.TheVariants as refusals
 use Rattle.run_file.specs.declared.stage.Stage.TheVariants as stages
 use Rattle.run_file.specs.declared.stage.Meaning.TheVariants as meanings
 use Rattle.run_file.specs.Spelling.{magic, Listing}
-use Rattle.run_file.specs.Reading.{magic_at, number_at, word_at, address_at, cell_at, cells_at, steps_at, state_at, states_at, ends_at}
-use Rattle.run_file.specs.Stages.{with_cells, with_states, from_cells, from_steps, from_states, from_count, from_word, from_stage}
+use Rattle.run_file.specs.Reading.{magic_at, word_at, address_at, cell_at, cells_at, steps_at, state_at, states_at, ends_at}
+use Rattle.run_file.specs.Stages.{with_cells, with_states, from_cells, from_steps, from_states, from_word, from_stage}
 
 pub word_step : (at : ℕ) (number more : List ℕ) → length number ≡ 8 → from_le_bytes w64 number < modulus → word_at (record { at = at; rest = number ++ more }) ≡ Ok (from_le_bytes w64 number, record { at = at + 8; rest = more })
 unfolding word_at
@@ -89,9 +89,11 @@ some_cells least left l p = rw add-one (first (address_at least p))
     others : (c : ℕ × ℕ) (r : Result (List (ℕ × ℕ) × Place) FileRefusal) → ((r >>= λ xs. Ok (c ∷ xs.0, xs.1)) >>= then_steps l) ≡ (r >>= then_steps (with_cells l (c ∷ [])))
     others c (Ok xs) = ap (λ (cells : List (ℕ × ℕ)). from_steps (record { rc = l.rc; cells = cells; states = l.states }) xs.1) (sym (append_assoc l.cells (c ∷ []) xs.0))
     others c (Err e) = refl
+
     second : (a : ℕ) (r : Result (ℕ × Place) FileRefusal) → (((r >>= λ word. Ok ((a, word.0), word.1)) >>= then_cells left) >>= then_steps l) ≡ (r >>= λ word. from_cells (a + 1) left (with_cells l ((a, word.0) ∷ [])) word.1)
     second a (Ok w) = others (a, w.0) (cells_at (a + 1) left w.1)
     second a (Err e) = refl
+
     first : (r : Result (ℕ × Place) FileRefusal) → (((r >>= then_word) >>= then_cells left) >>= then_steps l) ≡ (r >>= from_second left l)
     first (Ok a) = second a.0 (word_at a.1)
     first (Err e) = refl
@@ -119,12 +121,15 @@ some_states left l p = rw add-one (first (word_at p))
     others : (s : State) (r : Result (List State × Place) FileRefusal) → ((r >>= λ xs. Ok (s ∷ xs.0, xs.1)) >>= then_ends l) ≡ (r >>= then_ends (with_states l (s ∷ [])))
     others s (Ok xs) = ap (λ (states : List State). ends_at (record { rc = l.rc; cells = l.cells; states = states }) xs.1) (sym (append_assoc l.states (s ∷ []) xs.0))
     others s (Err e) = refl
+
     third : (pc a : ℕ) (r : Result (ℕ × Place) FileRefusal) → (((r >>= λ fp. Ok (record { pc = pc; ap = a; fp = fp.0 }, fp.1)) >>= then_states left) >>= then_ends l) ≡ (r >>= from_third pc a left l)
     third pc a (Ok f) = others (record { pc = pc; ap = a; fp = f.0 }) (states_at left f.1)
     third pc a (Err e) = refl
+
     second : (pc : ℕ) (r : Result (ℕ × Place) FileRefusal) → (((r >>= then_fp pc) >>= then_states left) >>= then_ends l) ≡ (r >>= λ a. word_at a.1 >>= from_third pc a.0 left l)
     second pc (Ok a) = third pc a.0 (word_at a.1)
     second pc (Err e) = refl
+
     first : (r : Result (ℕ × Place) FileRefusal) → (((r >>= then_ap) >>= then_states left) >>= then_ends l) ≡ (r >>= λ pc. word_at pc.1 >>= λ a. word_at a.1 >>= from_third pc.0 a.0 left l)
     first (Ok pc) = second pc.0 (word_at pc.1)
     first (Err e) = refl
@@ -146,6 +151,7 @@ magic_refused at number more len other = rw (not_behind (starts_with nat_eq (num
     not_behind : (b : Bool) → starts_with nat_eq (number ++ more) magic ≡ b → starts_with nat_eq (number ++ more) magic ≡ false
     not_behind true is = absurd (other (first_eight number magic more _ len refl ((starts_is {E = nat_eq} Decides-eqb (number ++ more) magic (starts_with nat_eq (number ++ more) magic) refl).0 is)))
     not_behind false is = is
+
     not_before : (b : Bool) → starts_with nat_eq magic (number ++ more) ≡ b → starts_with nat_eq magic (number ++ more) ≡ false
     not_before true is = absurd (other (sym (first_eight magic number [] _ refl len (append-nil magic ∙ (starts_is {E = nat_eq} Decides-eqb magic (number ++ more) (starts_with nat_eq magic (number ++ more)) refl).0 is ∙ append_assoc number more _))))
     not_before false is = is

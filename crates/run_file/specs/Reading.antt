@@ -1,6 +1,6 @@
 -- Reading a run file from left to right, with the first refusal that is met.
 -- A reader takes a place in the file, and answers what it read and the place behind it.
-use Rattle.std.specs.Prelude.{◌≡◌, ℕ, ◌+◌, ◌^◌, List, [], ◌∷◌, length, drop, Result, Ok, Err, nat_eq, nat_lt, ◌==◌, if◌then◌else◌}
+use Rattle.std.specs.Prelude.{ℕ, ◌+◌, ◌^◌, List, length, drop, Result, Ok, Err, nat_eq, nat_lt, ◌==◌, if◌then◌else◌}
 use Rattle.std.specs.FinMap.{from_sorted}
 use Rattle.std.specs.List.{starts_with}
 use Rattle.byte_reading.specs.Reading.{Place, ◌>>=◌, counted}

@@ -9,8 +9,13 @@ mod reader;
 mod refusal;
 mod run;
 mod stage;
+mod writer;
 
 pub use laws::{one_run, reads_exactly};
 pub use reader::{Reader, read};
 pub use refusal::FileRefusal;
 pub use run::{Run, States};
+pub use writer::write;
+
+#[cfg(test)]
+mod tests;

@@ -120,7 +120,11 @@ fn read_whole(alloc: Global, bytes: &[u8]) -> Result<Run, FileRefusal>
 }
 
 /// Takes a piece number by number, and keeps the bytes behind the last whole one.
-fn take(progress: &mut Progress, unfinished: &mut Unfinished, piece: &[u8]) -> Result<(), FileRefusal>
+fn take(
+    progress: &mut Progress,
+    unfinished: &mut Unfinished,
+    piece: &[u8],
+) -> Result<(), FileRefusal>
     requires fits { IsProgress progress.old }
     requires offset { offset_behind progress.old unfinished.old + length piece.now < 2 ^ 64 }
     ensures fits { OnOk result (IsProgress progress.new) }

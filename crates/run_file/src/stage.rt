@@ -140,8 +140,16 @@ impl Meaning {
                 cells(address.value() + 1, left).with(Part::Cell { address, word })
             }
             Meaning::Pc { left } => Stage::Word(Meaning::Ap { pc: word, left }).without_part(),
-            Meaning::Ap { pc, left } => Stage::Word(Meaning::Fp { pc, ap: word, left }).without_part(),
-            Meaning::Fp { pc, ap, left } => states(left).with(Part::State(State { pc, ap, fp: word })),
+            Meaning::Ap { pc, left } => Stage::Word(Meaning::Fp {
+                pc,
+                ap: word,
+                left,
+            }).without_part(),
+            Meaning::Fp { pc, ap, left } => states(left).with(Part::State(State {
+                pc,
+                ap,
+                fp: word,
+            })),
         }
     }
 }

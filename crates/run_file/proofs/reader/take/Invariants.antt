@@ -1,4 +1,4 @@
-use Rattle.std.proofs.Common.{◌≡◌, ◌+◌, ◌++◌, ◌<◌, ℕ, List, length}
+use Rattle.std.proofs.Common.{◌≡◌, ◌+◌, ◌++◌, ℕ, List, length}
 use Rattle.std.specs.Prelude.{IsTrue}
 use Rattle.run_file.specs.Stages.{in_states}
 use Rattle.run_file.specs.Progress.{IsProgress, rest_of}

@@ -1,4 +1,4 @@
-use Rattle.std.proofs.Common.{sym, ◌∙◌, arith}
+use Rattle.std.proofs.Common.{arith}
 use Rattle.std.proofs.lemmas.Result.{err_from_is_err_and}
 use Rattle.run_file.proofs.StageLaws.{address_step, address_refused, address_no_word}
 use Rattle.run_file.proofs.stage.address.Goals as goal

@@ -1,4 +1,4 @@
-use Rattle.std.proofs.Common.{◌≡◌, ◌+◌, ◌-◌, sym, ap, ◌∙◌, arith}
+use Rattle.std.proofs.Common.{◌-◌, sym, ap, ◌∙◌, arith}
 use Rattle.run_file.specs.Stages.{from_cells, from_stage}
 use Rattle.run_file.proofs.StageLaws.{no_cells, some_cells}
 use Rattle.run_file.proofs.stage.cells.Goals as goal

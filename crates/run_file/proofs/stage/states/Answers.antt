@@ -1,4 +1,4 @@
-use Rattle.std.proofs.Common.{◌≡◌, ◌+◌, ◌-◌, sym, ap, ◌∙◌, arith}
+use Rattle.std.proofs.Common.{◌-◌, sym, ap, ◌∙◌, arith}
 use Rattle.run_file.specs.Stages.{from_states, from_stage}
 use Rattle.run_file.proofs.StageLaws.{no_states, some_states}
 use Rattle.run_file.proofs.stage.states.Goals as goal

@@ -1,4 +1,4 @@
-use Rattle.std.proofs.Common.{arith, sym, ap, ◌∙◌, ◌≤◌, Ok, List, ℕ}
+use Rattle.std.proofs.Common.{arith, ◌≤◌}
 use Rattle.felt64.specs.Field.{modulus}
 use Rattle.run_file.proofs.StageLaws.{word_step, word_refused}
 use Rattle.run_file.proofs.stage.word.Goals as goal

@@ -1,5 +1,4 @@
 use Rattle.std.proofs.Common.{refl}
-use Rattle.ro_machine.specs.Cells.{Cells}
 use Rattle.run_file.proofs.Order.{same_cells}
 use Rattle.run_file.proofs.progress.Progress.into_run.Goals as goal
 

@@ -1,7 +1,5 @@
-use Rattle.std.proofs.Common.{◌≡◌, ◌∷◌, [], ◌++◌, List, ℕ, refl, ap, arith}
-use Rattle.std.specs.FinMap.{entries, insert}
-use Rattle.run_file.specs.Spelling.{Listing}
-use Rattle.run_file.specs.Progress.{Keeps}
+use Rattle.std.proofs.Common.{◌≡◌, List, ℕ, refl, ap, arith}
+use Rattle.std.specs.FinMap.{insert}
 use Rattle.run_file.proofs.Order.{insert_last, on_ok}
 use Rattle.run_file.proofs.progress.RunSoFar.keep.Goals as goal
 

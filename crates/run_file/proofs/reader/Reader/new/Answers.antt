@@ -1,4 +1,3 @@
-use Rattle.std.proofs.Common.{ap}
 use Rattle.run_file.proofs.EndLaws.{says_all}
 use Rattle.run_file.proofs.reader.Reader.new.Goals as goal
 
