@@ -1,5 +1,5 @@
 -- What reading CASM text gives: exactly the code of the text, or the exact place.
-use Rattle.std.proofs.Common.{◌≡◌, ◌≢◌, ◌↔◌, ℕ, suc, ◌-◌, ◌<◌, ◌≤◌, ◌^◌, List, [], ◌∷◌, ◌++◌, length, Bool, true, false, Option, None, Some, Result, Ok, Err, refl, sym, ◌∙◌, ap, subst, inl, inr, ◌⊎◌, arith, lit≤}
+use Rattle.std.proofs.Common.{◌≡◌, ◌↔◌, ℕ, ◌<◌, List, [], ◌++◌, Option, Ok, Err, inl, inr, arith, lit≤}
 use Rattle.std.proofs.lemmas.Bool.{ltb-true}
 use Rattle.felt64.specs.Field.{modulus}
 use Rattle.casm_word.specs.declared.instr.Instr.{Instr}
@@ -9,17 +9,15 @@ use Rattle.casm_word.specs.declared.instr.Operand.TheVariants as operands
 use Rattle.casm_word.specs.declared.instr.Res.{Res}
 use Rattle.casm_word.specs.declared.instr.Res.TheVariants as results
 use Rattle.casm_word.specs.Bounds.{IsInstrInField, IsResInField, IsOperandInField}
-use Rattle.text_reading.specs.Tokens.{Number}
-use Rattle.text_reading.specs.Places.{TextOf, IsPlace, GoesOnWithDigit, Continues}
-use Rattle.text_reading.specs.Reading.{Answer, Answer.answers, Reader}
-use Rattle.text_reading.specs.TokenReading.{text_at}
+use Rattle.text_reading.specs.Places.{IsPlace, GoesOnWithDigit}
+use Rattle.text_reading.specs.Reading.{Answer.answers}
 use Rattle.text_reading.proofs.BlankFacts.{Fresh}
 use Rattle.text_reading.proofs.Readers.{IsReader}
 use Rattle.text_reading.proofs.Limits.{Passes}
 use Rattle.text_reading.proofs.WholeTexts.{Moves, text_sound, text_complete, text_place, text_limit}
 use Rattle.casm_text.specs.declared.fault.NumberKind.{NumberKind}
 use Rattle.casm_text.specs.declared.fault.NumberKind.TheVariants as kinds
-use Rattle.casm_text.specs.Text.{Limits, standard, without, Imm, OperandText, ResText, InstrText, Text}
+use Rattle.casm_text.specs.Text.{standard, without, Imm, OperandText, ResText, InstrText, Text}
 use Rattle.casm_text.specs.Reading.{instr_at, code_at}
 use Rattle.casm_text.proofs.Forms.{instr}
 use Rattle.casm_text.proofs.ExactForms.{AreWide, instr_exact}

@@ -1,5 +1,5 @@
 -- The readers of CASM text read exactly the forms of its definition.
-use Rattle.std.proofs.Common.{◌≡◌, ◌≢◌, ℕ, zero, suc, ◌-◌, ◌<◌, ◌≤◌, List, [], ◌∷◌, Bool, true, false, eqb, Option, None, Some, Result, Ok, Err, refl, sym, ◌∙◌, ap, subst, inl, inr, ◌⊎◌, arith, lit≤}
+use Rattle.std.proofs.Common.{◌≡◌, ◌≢◌, ℕ, zero, suc, ◌-◌, List, [], ◌∷◌, Bool, true, false, eqb, Option, None, Some, refl, sym, ◌∙◌, subst, inl, inr, arith}
 use Rattle.std.specs.Prelude.{ℤ, pos, negsuc, codes, option_map}
 use Rattle.felt64.specs.Field.{modulus}
 use Rattle.casm_word.specs.declared.instr.Reg.{Reg}
@@ -12,13 +12,12 @@ use Rattle.casm_word.specs.declared.instr.Res.TheVariants as results
 use Rattle.casm_word.specs.declared.instr.Instr.{Instr}
 use Rattle.casm_word.specs.declared.instr.Instr.TheVariants as instrs
 use Rattle.text_reading.specs.Tokens.{Form, ◌then◌, is_digit, Mark, Word, Number}
-use Rattle.text_reading.specs.Reading.{done, ◌>>=◌, begins, branch}
-use Rattle.text_reading.specs.TokenReading.{mark_at, word_at, number_at}
+use Rattle.text_reading.specs.Reading.{begins}
 use Rattle.text_reading.proofs.TokenFacts.{IsWide}
-use Rattle.text_reading.proofs.Exact.{IsExact, Then, Made, Or, exact_as, exact_then, exact_last, exact_done, Begins, exact_branch, exact_mark, exact_word, exact_number, exact_positive, mark_begins, word_begins, number_begins}
+use Rattle.text_reading.proofs.Exact.{IsExact, Then, Made, Or, exact_as, exact_then, exact_last, exact_done, exact_branch, exact_mark, exact_word, exact_number, exact_positive, mark_begins, word_begins, number_begins}
 use Rattle.casm_text.specs.declared.fault.NumberKind.TheVariants as kinds
-use Rattle.casm_text.specs.Text.{Limits, without, Register, Ending, Base, Offset, NegativeImm, Imm, Cell, OperandText, ResText, InstrText}
-use Rattle.casm_text.specs.Reading.{Casm, negative, register_at, ending_at, offset_at, imm_at, inner_at, cell_rest_at, cell_at, operand_at, behind_cell_at, double_at, bracket_at, res_at, assert_at, jnz_at, jump_end_at, relative_end_at, jump_at, base_at, call_at, add_ap_at, ret_at, instr_at}
+use Rattle.casm_text.specs.Text.{Limits, Register, Ending, Base, Offset, Imm, Cell, OperandText, ResText, InstrText}
+use Rattle.casm_text.specs.Reading.{negative, register_at, ending_at, offset_at, imm_at, inner_at, cell_rest_at, cell_at, operand_at, behind_cell_at, double_at, bracket_at, res_at, assert_at, jnz_at, jump_end_at, relative_end_at, jump_at, base_at, call_at, add_ap_at, ret_at, instr_at}
 
 -- the limits that a text may have: a first digit passes none
 pub record AreWide (limits : Limits) : Type 0 where

@@ -1,7 +1,7 @@
 -- The forms of CASM text as readers: what each takes can be ended, and where one kind of number has no limit it
 -- reads the same, but where a number passes that limit.
-use Rattle.std.proofs.Common.{◌≡◌, ◌≢◌, ℕ, suc, List, [], ◌∷◌, Bool, true, false, Option, None, Some, refl, ◌-◌}
-use Rattle.std.specs.Prelude.{ℤ, pos, codes, option_map}
+use Rattle.std.proofs.Common.{◌≢◌, suc, [], ◌∷◌, Bool, true, false, refl, ◌-◌}
+use Rattle.std.specs.Prelude.{pos, codes, option_map}
 use Rattle.felt64.specs.Field.{modulus}
 use Rattle.casm_word.specs.declared.instr.Reg.TheVariants as regs
 use Rattle.casm_word.specs.declared.instr.CellRef.{CellRef}
@@ -10,13 +10,13 @@ use Rattle.casm_word.specs.declared.instr.Operand.TheVariants as operands
 use Rattle.casm_word.specs.declared.instr.Res.{Res}
 use Rattle.casm_word.specs.declared.instr.Res.TheVariants as results
 use Rattle.casm_word.specs.declared.instr.Instr.TheVariants as instrs
-use Rattle.text_reading.specs.Reading.{done, ◌>>=◌, branch}
-use Rattle.text_reading.specs.TokenReading.{mark_at, word_at, number_at}
-use Rattle.text_reading.proofs.Languages.{Reads, Limited, LimitedFrom, limited_then, from_then, limited_done, limited_branch, from_branch, from_mark, from_word, limited_number, limited_other}
+use Rattle.text_reading.specs.Reading.{◌>>=◌, branch}
+use Rattle.text_reading.specs.TokenReading.{word_at, number_at}
+use Rattle.text_reading.proofs.Languages.{Limited, LimitedFrom, limited_then, from_then, limited_done, limited_branch, from_branch, from_mark, from_word, limited_number, limited_other}
 use Rattle.casm_text.specs.declared.fault.NumberKind.{NumberKind}
 use Rattle.casm_text.specs.declared.fault.NumberKind.TheVariants as kinds
 use Rattle.casm_text.specs.Text.{Limits, without}
-use Rattle.casm_text.specs.Reading.{Casm, negative, register_at, ending_at, offset_at, imm_at, inner_at, cell_rest_at, cell_at, operand_at, behind_cell_at, double_at, bracket_at, res_at, assert_at, jnz_at, jump_end_at, relative_end_at, jump_at, base_at, call_at, add_ap_at, ret_at, instr_at}
+use Rattle.casm_text.specs.Reading.{negative, register_at, ending_at, offset_at, imm_at, inner_at, cell_rest_at, cell_at, operand_at, behind_cell_at, double_at, bracket_at, res_at, assert_at, jnz_at, jump_end_at, relative_end_at, jump_at, base_at, call_at, add_ap_at, ret_at, instr_at}
 
 module _ (kind : NumberKind) where
   register : LimitedFrom 97 kind register_at register_at

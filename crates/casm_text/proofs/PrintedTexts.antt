@@ -1,8 +1,8 @@
 -- What is printed is a text of the code.
-use Rattle.std.proofs.Common.{◌≡◌, ◌≢◌, ℕ, suc, ◌-◌, ◌/◌, ◌<◌, ◌≤◌, ◌^◌, List, [], ◌∷◌, ◌++◌, Bool, true, false, cond, ltb, Option, None, Some, refl, sym, ◌∙◌, ap, subst, append_assoc, inl, inr, ◌⊎◌, arith, lit<}
+use Rattle.std.proofs.Common.{◌≡◌, ℕ, suc, ◌-◌, ◌/◌, ◌<◌, ◌^◌, List, [], ◌∷◌, ◌++◌, Bool, true, false, cond, ltb, Some, refl, sym, ◌∙◌, ap, subst, append_assoc, inl, inr, arith}
 use Rattle.std.specs.Prelude.{ℤ, pos, negsuc, codes, decimal}
 use Rattle.std.specs.Fmt.{signed_decimal}
-use Rattle.std.proofs.lemmas.Bool.{ltb-true, ltb-false, lt-ltb}
+use Rattle.std.proofs.lemmas.Bool.{ltb-true, lt-ltb}
 use Rattle.std.proofs.lemmas.List.Concat.{flat_map-cons}
 use Rattle.std.specs.List.{AllByRecursion}
 use Rattle.felt64.specs.Field.{modulus}
@@ -17,8 +17,8 @@ use Rattle.casm_word.specs.declared.instr.Instr.{Instr}
 use Rattle.casm_word.specs.declared.instr.Instr.TheVariants as instrs
 use Rattle.casm_word.specs.Offset.{IsNear}
 use Rattle.casm_word.specs.Bounds.{IsOperandInField, IsResInField, IsInstrInField, IsOperandNear, IsResNear, IsInstrNear}
-use Rattle.text_reading.specs.Tokens.{Form, ◌then◌, NoneNext, is_digit, Blanks, Mark, Word, Number}
-use Rattle.text_reading.specs.Places.{Items, TextOf}
+use Rattle.text_reading.specs.Tokens.{◌then◌, NoneNext, is_digit, Blanks, Mark}
+use Rattle.text_reading.specs.Places.{Items}
 use Rattle.text_reading.proofs.BlankFacts.{Fresh}
 use Rattle.text_reading.proofs.Written.{blanks_here, blank_space, blank_line, mark_written, word_written, number_written, number_fresh}
 use Rattle.casm_text.specs.Text.{standard, Register, Ending, Base, Offset, Imm, Cell, OperandText, ResText, InstrText, Text}

@@ -1,12 +1,11 @@
 -- What assembling answers, by what reading the text gives.
-use Rattle.std.proofs.Common.{◌≡◌, ◌≢◌, ◌↔◌, ℕ, ◌-◌, ◌<◌, ◌≤◌, ◌^◌, List, [], ◌++◌, length, take, Option, None, Some, Result, Ok, Err, refl, sym, ◌∙◌, ap, subst, inl, inr, ◌⊎◌, arith}
+use Rattle.std.proofs.Common.{◌≡◌, ◌≢◌, ◌↔◌, ℕ, ◌-◌, List, [], length, take, Option, None, Some, Ok, Err, refl, sym, ◌∙◌, ap, subst, inl, inr, ◌⊎◌, arith}
 use Rattle.std.specs.Prelude.{IsTrue, true, false}
 use Rattle.casm_word.specs.declared.instr.Instr.{Instr}
 use Rattle.text_reading.specs.declared.stop.Stop.{Stop}
 use Rattle.text_reading.specs.declared.stop.Stop.TheVariants as stops
-use Rattle.text_reading.specs.declared.place.Place.{Place}
 use Rattle.text_reading.specs.Given.{Gives}
-use Rattle.text_reading.specs.Places.{IsPlace, GoesOnWithDigit, line_behind, column_behind}
+use Rattle.text_reading.specs.Places.{line_behind}
 use Rattle.text_reading.specs.Reading.{Answer, Answer.answers}
 use Rattle.text_reading.proofs.Limits.{Passes}
 use Rattle.text_reading.proofs.OnePlace.{one_place, front_is}
@@ -14,7 +13,7 @@ use Rattle.casm_text.specs.declared.fault.NumberKind.{NumberKind}
 use Rattle.casm_text.specs.declared.fault.NumberKind.TheVariants as kinds
 use Rattle.casm_text.specs.declared.fault.AsmFault.{AsmFault}
 use Rattle.casm_text.specs.declared.fault.AsmFault.TheVariants as faults
-use Rattle.casm_text.specs.Text.{Text, standard, without}
+use Rattle.casm_text.specs.Text.{Text, standard}
 use Rattle.casm_text.specs.Reading.{code_at}
 use Rattle.casm_text.specs.Refusals.{word_count, IsShort, place_behind, refusal_of, Ends, PassesLimit, Refused}
 use Rattle.casm_text.proofs.CodeReading.{code_sound, code_complete, code_place, code_limit}

@@ -1,5 +1,5 @@
 -- Reading CASM text, form by form, each by its next byte.
-use Rattle.std.specs.Prelude.{ℕ, zero, suc, ◌-◌, ℤ, pos, negsuc, List, [], ◌∷◌, Bool, true, false, Option, None, Some, option_map, codes}
+use Rattle.std.specs.Prelude.{ℕ, zero, suc, ◌-◌, ℤ, pos, negsuc, List, Bool, true, false, option_map, codes}
 use Rattle.felt64.specs.Field.{modulus}
 use Rattle.casm_word.specs.declared.instr.Reg.{Reg}
 use Rattle.casm_word.specs.declared.instr.Reg.TheVariants as regs

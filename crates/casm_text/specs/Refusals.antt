@@ -1,5 +1,5 @@
 -- Which bytes are refused, and why.
-use Rattle.std.specs.Prelude.{◌≡◌, ◌≢◌, ℕ, ◌<◌, ◌≤◌, ◌^◌, List, length}
+use Rattle.std.specs.Prelude.{◌≡◌, ℕ, ◌<◌, ◌≤◌, ◌^◌, List, length}
 use Rattle.std.specs.List.{flat_map}
 use Rattle.casm_word.specs.declared.instr.Instr.{Instr}
 use Rattle.casm_word.specs.Encoding.{words_of}

@@ -1,6 +1,6 @@
 -- The text of code: a relation between instructions and bytes, by cases on the forms of instructions. Blanks may
 -- stand between any two tokens, and before the first.
-use Rattle.std.specs.Prelude.{◌≡◌, ◌≢◌, ◌⊎◌, ℕ, suc, ◌-◌, ◌^◌, ℤ, pos, negsuc, List, [], ◌∷◌, Bool, true, false, Option, None, Some, option_map, codes, if◌then◌else◌}
+use Rattle.std.specs.Prelude.{◌≡◌, ◌≢◌, ◌⊎◌, ℕ, suc, ◌-◌, ◌^◌, ℤ, pos, negsuc, List, Bool, true, false, Option, None, Some, option_map, codes, if◌then◌else◌}
 use Rattle.felt64.specs.Field.{modulus}
 use Rattle.casm_word.specs.declared.instr.Reg.{Reg}
 use Rattle.casm_word.specs.declared.instr.Reg.TheVariants as regs

@@ -1,9 +1,9 @@
 -- What is written so is read as its form: tokens with what follows them.
-use Rattle.std.proofs.Common.{◌≡◌, ℕ, zero, ◌<◌, ◌≤◌, ◌^◌, List, [], ◌∷◌, ◌++◌, length, get_or, Bool, true, false, eqb, ◌||◌, Option, None, Some, refl, sym, ◌∙◌, ap, subst, arith}
+use Rattle.std.proofs.Common.{◌≡◌, ℕ, ◌<◌, ◌≤◌, ◌^◌, List, [], ◌∷◌, ◌++◌, length, get_or, true, false, eqb, ◌||◌, Option, refl, ap, arith}
 use Rattle.std.specs.Prelude.{decimal}
 use Rattle.std.proofs.lemmas.Bool.{ne_eqb, or_from}
 use Rattle.byte_reading.proofs.DecimalLaws.{decimal_is_decimal_text, decimal_nonempty, decimal_digit_at}
-use Rattle.text_reading.specs.Tokens.{Form, NoneNext, is_digit, is_word_byte, is_within, is_blank, Blanks, Mark, Word, Digits, Number}
+use Rattle.text_reading.specs.Tokens.{NoneNext, is_digit, is_word_byte, is_within, is_blank, Blanks, Mark, Word, Number}
 use Rattle.text_reading.proofs.BlankFacts.{Fresh, is_gap, blanks_none, blanks_sound}
 
 -- no blanks

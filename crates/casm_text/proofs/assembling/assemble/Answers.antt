@@ -1,4 +1,4 @@
-use Rattle.std.proofs.Common.{◌≡◌, ◌∙◌, sym, refl, ap, subst, arith}
+use Rattle.std.proofs.Common.{◌∙◌, sym, refl, ap, subst, arith}
 use Rattle.casm_text.specs.Refusals.{IsShort, refusal_of}
 use Rattle.casm_text.proofs.Refusing.{read_code, same_code, short_not_refused, long_refused, is_long, stop_only, stop_cause, stop_exact}
 use Rattle.casm_text.proofs.assembling.assemble.Goals as goal

@@ -1,4 +1,4 @@
-use Rattle.std.proofs.Common.{◌≡◌, arith}
+use Rattle.std.proofs.Common.{arith}
 use Rattle.casm_text.proofs.Words.{count_within, first_instr}
 use Rattle.casm_text.proofs.assembling.is_short.Goals as goal
 
