@@ -4,7 +4,7 @@
 ghost use Rattle.std.specs.Prelude.{◌≡◌, ◌≢◌, [], ◌≤◌, length, map, Some, Err, IfOk, IsErrOf, MatchResult, string_bytes};
 ghost use Rattle.edge_io.specs.Counts.{Rose};
 ghost use Rattle.edge_io.specs.Files.{Keeps, ForFile, ReadsAt};
-ghost use Rattle.edge_io.specs.FileTable.{file_map, quiet_view};
+ghost use Rattle.edge_io.specs.FileTable.{file_map, quiet_view, read_answer, read_buffer, counted};
 
 use crate::files::{FileFault, Files};
 use crate::mem_files::MemFiles;
@@ -41,6 +41,9 @@ impl Files for QuietFiles {
         ensures missing { IsErrOf result FileFault.Missing → Rose self.old.files.misses self.new.files.misses }
         ensures failed { IsErrOf result FileFault.Failed → Rose 0 0 }
         ensures never_fails { result ≢ Err FileFault.Failed }
+        ensures answer { result ≡ read_answer self.old.files name.now at (length buf.old) }
+        ensures buffer { buf.new ≡ read_buffer self.old.files name.now at buf.old }
+        ensures after { self.new.files ≡ counted self.old.files result }
     {
         self.files.read_at(name, at, buf)
     }

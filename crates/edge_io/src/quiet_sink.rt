@@ -3,7 +3,7 @@
 
 ghost use Rattle.std.specs.Prelude.{◌≡◌, ◌≤◌, ◌<◌, [], length, take, IfOk, IsOk, MatchResult};
 ghost use Rattle.edge_io.specs.Sinks.{WritesAll, WritesPart};
-ghost use Rattle.edge_io.specs.KeptBytes.{nothing_kept, quiet_sink_view};
+ghost use Rattle.edge_io.specs.KeptBytes.{nothing_kept, quiet_sink_view, WriteAnswers, after_write};
 
 use crate::mem_sink::MemSink;
 use crate::sinks::{Failed, Sink};
@@ -43,6 +43,8 @@ impl Sink for QuietSink {
             (λ n. WritesAll (quiet_sink_view self.old.sink) (quiet_sink_view self.new.sink) (take n piece.now))
             (λ _. WritesPart (quiet_sink_view self.old.sink) (quiet_sink_view self.new.sink) []) }
         ensures never_fails { IsOk result }
+        ensures answer { WriteAnswers self.old.sink piece.now result }
+        ensures after { self.new.sink ≡ after_write self.old.sink piece.now result }
     {
         self.sink.write(piece)
     }

@@ -2,8 +2,9 @@
 //! Pieces of a file come in, however they are cut; the first refusal in byte order goes out as soon as its byte has come,
 //! or at the end the run.
 
-ghost use Rattle.std.specs.Prelude.{◌≡◌, ◌≢◌, ◌+◌, ◌<◌, ◌≤◌, ◌^◌, ◌++◌, ℕ, List, [], length, OnOk, IfOk, IfErr, IsTrue};
+ghost use Rattle.std.specs.Prelude.{◌≡◌, ◌≢◌, ◌+◌, ◌<◌, ◌≤◌, ◌^◌, ◌++◌, ℕ, List, [], length, OnOk, IfOk, IfErr, IsTrue, Some, Err};
 ghost use Rattle.byte_reading.specs.Reading.{Gives};
+ghost use Rattle.run_file.specs.declared.refusal.FileRefusal.{FileRefusal};
 ghost use Rattle.run_file.specs.declared.run.Run.{Run};
 ghost use Rattle.run_file.specs.Spelling.{IsRun, spelling};
 ghost use Rattle.run_file.specs.Reading.{reading, refusal_in};
@@ -63,7 +64,9 @@ impl Reader {
         ensures answer { Gives FileRefusal.Memory (λ x. x) result (refusal_in (says self.old piece.now)) }
         // What the rest of the file says.
         ensures says { result ≢ Err FileRefusal.Memory → (more : List ℕ) → says self.new more ≡ says self.old (piece.now ++ more) }
-        ensures refused { IfErr result (λ e. (taken self.new ≡ 0) × ((more : List ℕ) → says self.new more ≡ Err e)) }
+        ensures refused { IfErr result (λ e. (self.new.refused ≡ Some e) × (taken self.new ≡ 0) × ((more : List ℕ) → says self.new more ≡ Err e)) }
+        // A reader that refused answers the same again and takes nothing.
+        ensures again { (e : FileRefusal) → self.old.refused ≡ Some e → (result ≡ Err e) × (self.new ≡ self.old) }
         ensures taken { OnOk result (taken self.new ≡ taken self.old + length piece.now) }
         // In the states memory can't run out.
         ensures room { IsTrue (has_room self.old) → result ≢ Err FileRefusal.Memory }

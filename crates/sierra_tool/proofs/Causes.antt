@@ -15,7 +15,7 @@ use Rattle.sierra_tool.specs.declared.command.Source.{Source}
 use Rattle.sierra_tool.specs.declared.command.Source.TheVariants as sources
 use Rattle.sierra_tool.specs.declared.program.Program.{Program}
 use Rattle.sierra_tool.specs.declared.input.Input.{Input}
-use Rattle.sierra_tool.specs.Causes.{Reading, absent, unread, found, Readings, Holds, IsRunFile, HasProgram, HasInput, HasRun, CanRun, ComesTo, Cause}
+use Rattle.sierra_tool.specs.Causes.{Reading, absent, unread, found, SourceReadings, Holds, IsRunFile, HasProgram, HasInput, HasRun, CanRun, ComesTo, Cause}
 use Rattle.sierra_tool.specs.Command.{limit}
 use Rattle.sierra_tool.specs.Forms.{IsProgram, IsInput}
 use Rattle.felt64.specs.Field.{modulus}
@@ -89,10 +89,10 @@ module _ {X : Type 0} (source : Source) (wrong : List ℕ → Answer → Type 0)
 -- ---- The stages of a check
 
 one_cause : (program : Program) (input : Input) (run : Run) (e f : CheckFault) → IsRejected program input run e → IsRejected program input run f → e ≡ f
-one_cause program input run e f p q = rejected_once (code_of program) (parameter_types program) (arguments_of input) run.rc (get run.memory) run.states e f p q
+one_cause program input run e f p q = rejected_once (code_of program) (parameter_types program) (arguments_of program input) run.rc (get run.memory) run.states e f p q
 
-never_accepted : (program : Program) (input : Input) (run : Run) (fault : CheckFault) → IsRejected program input run fault → IsAccepted program input run → ⊥
-never_accepted program input run fault p q = not_both (code_of program) (parameter_types program) (arguments_of input) run.rc (get run.memory) run.states fault p q
+pub never_accepted : (program : Program) (input : Input) (run : Run) (fault : CheckFault) → IsRejected program input run fault → IsAccepted program input run → ⊥
+never_accepted program input run fault p q = not_both (code_of program) (parameter_types program) (arguments_of program input) run.rc (get run.memory) run.states fault p q
 
 of_run_once : (program : Program) (input : Input) (run : Run) (a b : Answer) → OfRun program input run a → OfRun program input run b → a ≡ b
 of_run_once program input run a b (inl p) (inl q) = p.2 ∙ ap answers.RunRejected (one_cause program input run p.0 q.0 p.1 q.1) ∙ sym q.2
@@ -100,23 +100,23 @@ of_run_once program input run a b (inl p) (inr q) = absurd (never_accepted progr
 of_run_once program input run a b (inr p) (inl q) = absurd (never_accepted program input run q.0 q.1 p.0)
 of_run_once program input run a b (inr p) (inr q) = p.1.2 ∙ ap answers.Judged (one_verdict program input run p.1.0 q.1.0 p.1.1 q.1.1) ∙ sym q.1.2
 
-abbrev AfterGas : Readings → Program → Input → Answer → Type 0
+abbrev AfterGas : SourceReadings → Program → Input → Answer → Type 0
 AfterGas readings program input = Stage sources.Run NoRun IsRunFile (OfRun program input) (readings sources.Run)
 
-abbrev AfterInput : Readings → Program → Input → Answer → Type 0
+abbrev AfterInput : SourceReadings → Program → Input → Answer → Type 0
 AfterInput readings program input answer =
     ((input.gas < entry_gas program) × (answer ≡ answers.NotEnoughGas (entry_gas program) input.gas)) ⊎ ((entry_gas program ≤ input.gas) × AfterGas readings program input answer)
 
-abbrev AfterProgram : Readings → Program → Answer → Type 0
-AfterProgram readings program = Stage sources.Input NoInput IsInput (AfterInput readings program) (readings sources.Input)
+abbrev AfterProgram : SourceReadings → Program → Answer → Type 0
+AfterProgram readings program = Stage sources.Input (NoInput program) (IsInput program) (AfterInput readings program) (readings sources.Input)
 
-abbrev Ordered : Readings → Answer → Type 0
+abbrev Ordered : SourceReadings → Answer → Type 0
 Ordered readings = Stage sources.Program NoProgram IsProgram (AfterProgram readings) (readings sources.Program)
 
 one_refusal : (bytes : List ℕ) (e f : FileRefusal) → reading bytes ≡ Err e → reading bytes ≡ Err f → e ≡ f
 one_refusal bytes e f p q = cc
 
-after_gas_once : (readings : Readings) (program : Program) (input : Input) (a b : Answer) → AfterGas readings program input a → AfterGas readings program input b → a ≡ b
+after_gas_once : (readings : SourceReadings) (program : Program) (input : Input) (a b : Answer) → AfterGas readings program input a → AfterGas readings program input b → a ≡ b
 after_gas_once readings program input =
     stage_once sources.Run NoRun IsRunFile (OfRun program input)
     (λ bytes a b p q. p.2 ∙ ap answers.RunRefused (one_refusal bytes p.0 q.0 p.1.1 q.1.1) ∙ sym q.2)
@@ -124,26 +124,26 @@ after_gas_once readings program input =
     (λ bytes p q p_is q_is. one_run p q p_is.0 q_is.0 (sym p_is.1 ∙ q_is.1))
     (of_run_once program input) (readings sources.Run)
 
-after_input_once : (readings : Readings) (program : Program) (input : Input) (a b : Answer) → AfterInput readings program input a → AfterInput readings program input b → a ≡ b
+after_input_once : (readings : SourceReadings) (program : Program) (input : Input) (a b : Answer) → AfterInput readings program input a → AfterInput readings program input b → a ≡ b
 after_input_once readings program input a b (inl p) (inl q) = p.1 ∙ sym q.1
 after_input_once readings program input a b (inl p) (inr q) = absurd (omega (arith, p.0, q.0))
 after_input_once readings program input a b (inr p) (inl q) = absurd (omega (arith, p.0, q.0))
 after_input_once readings program input a b (inr p) (inr q) = after_gas_once readings program input a b p.1 q.1
 
-after_program_once : (readings : Readings) (program : Program) (a b : Answer) → AfterProgram readings program a → AfterProgram readings program b → a ≡ b
+after_program_once : (readings : SourceReadings) (program : Program) (a b : Answer) → AfterProgram readings program a → AfterProgram readings program b → a ≡ b
 after_program_once readings program =
-    stage_once sources.Input NoInput IsInput (AfterInput readings program)
-    (λ bytes a b p q. p.1 ∙ sym q.1) (λ bytes a input p q. p.0 input q) one_input
+    stage_once sources.Input (NoInput program) (IsInput program) (AfterInput readings program)
+    (λ bytes a b p q. p.1 ∙ sym q.1) (λ bytes a input p q. p.0 input q) (one_input program)
     (after_input_once readings program) (readings sources.Input)
 
-ordered_once : (readings : Readings) (a b : Answer) → Ordered readings a → Ordered readings b → a ≡ b
+ordered_once : (readings : SourceReadings) (a b : Answer) → Ordered readings a → Ordered readings b → a ≡ b
 ordered_once readings =
     stage_once sources.Program NoProgram IsProgram (AfterProgram readings)
     (λ bytes a b p q. p.1 ∙ sym q.1) (λ bytes a program p q. p.0 program q) one_program
     (after_program_once readings) (readings sources.Program)
 
 -- a source that a command comes to and that is unfit
-unfit_ordered : (command : Command) (readings : Readings) (source : Source) (a : Answer) → ComesTo command readings source → IsUnfit source (readings source) a → Ordered readings a
+unfit_ordered : (command : Command) (readings : SourceReadings) (source : Source) (a : Answer) → ComesTo command readings source → IsUnfit source (readings source) a → Ordered readings a
 unfit_ordered command readings sources.Program a comes unfit = inl (inl unfit)
 unfit_ordered command readings sources.Input a comes unfit = inr (comes.1, comes.2, inl (inl unfit))
 unfit_ordered command readings sources.Run a comes unfit =
@@ -154,7 +154,7 @@ same_gas : (need given entry gas : ℕ) → need ≡ entry → given ≡ gas →
 same_gas need given entry gas p q = cc
 
 -- the cause of an answer, by the stages
-ordered : (command : Command) (readings : Readings) (a : Answer) → Cause (Some command) readings a → Ordered readings a
+ordered : (command : Command) (readings : SourceReadings) (a : Answer) → Cause (Some command) readings a → Ordered readings a
 ordered command readings (answers.Missing source) c = unfit_ordered command readings source (answers.Missing source) c.0 (inl (c.1, refl))
 ordered command readings (answers.ReadFault source) c = unfit_ordered command readings source (answers.ReadFault source) c.0 (inr (inl (c.1, refl)))
 ordered command readings (answers.TooLong source) c = unfit_ordered command readings source (answers.TooLong source) c.0 (inr (inr (c.1, refl)))
@@ -173,13 +173,13 @@ ordered command readings (answers.Judged verdict) c =
     let can = c.3 in
     inr (c.0, can.program_read, inr (c.1, can.input_read, inr (can.gas, inr (c.2, c.4, inr (c.5, (verdict, c.6, refl))))))
 
-pub one_answer : (command : Option Command) (readings : Readings) (a b : Answer) → Cause command readings a → Cause command readings b → a ≡ b
+pub one_answer : (command : Option Command) (readings : SourceReadings) (a b : Answer) → Cause command readings a → Cause command readings b → a ≡ b
 one_answer None readings a b p q = p ∙ sym q
 one_answer (Some command) readings a b p q = ordered_once readings a b (ordered command readings a p) (ordered command readings b q)
 
 -- ---- There is an answer
 
-module _ (check : Check) (readings : Readings)
+module _ (check : Check) (readings : SourceReadings)
     (small : (source : Source) (bytes : List ℕ) → readings source ≡ found bytes → All (λ byte. byte < 256) bytes)
     (none : (answer : Answer) → Cause (Some (commands.Check check)) readings answer → ⊥)
   where
@@ -232,6 +232,6 @@ module _ (check : Check) (readings : Readings)
     no_program = held sources.Program refl (λ text is within.
         none answers.NotBuilt (inl (text, is, within, λ program is_program. no_input program (text, is, within, is_program))))
 
-pub some_answer : (command : Option Command) (readings : Readings) → ((source : Source) (bytes : List ℕ) → readings source ≡ found bytes → All (λ byte. byte < 256) bytes) → ((answer : Answer) → Cause command readings answer → ⊥) → ⊥
+pub some_answer : (command : Option Command) (readings : SourceReadings) → ((source : Source) (bytes : List ℕ) → readings source ≡ found bytes → All (λ byte. byte < 256) bytes) → ((answer : Answer) → Cause command readings answer → ⊥) → ⊥
 some_answer None readings small none = none answers.NotBuilt refl
 some_answer (Some (commands.Check check)) readings small none = no_program check readings small none

@@ -111,28 +111,28 @@ one_program text p q p_is q_is =
 abbrev pub largest_gas : ℕ
 largest_gas = 4294967295
 
-pub gas_behind : (text : List ℕ) (i : Input) → IsInput text i → HasNumber text GAS.now largest_gas i.gas (LINE_END.now ++ (decimal i.argument ++ LINE_END.now))
-gas_behind text i is = has_number text GAS.now largest_gas i.gas _ (omega (arith, is.gas_below)) (omega (arith, is.gas_below)) (λ digit. omega (arith, digit)) is.text_is
+pub gas_behind : (program : Program) (text : List ℕ) (i : Input) → IsInput program text i → HasNumber text GAS.now largest_gas i.gas (LINE_END.now ++ (decimal i.argument ++ LINE_END.now))
+gas_behind program text i is = has_number text GAS.now largest_gas i.gas _ (omega (arith, is.gas_below)) (omega (arith, is.gas_below)) (λ digit. omega (arith, digit)) is.text_is
 
 pub argument_behind : (n : ℕ) → n ≤ GREATEST → HasNumber (LINE_END.now ++ (decimal n ++ LINE_END.now)) LINE_END.now GREATEST n LINE_END.now
 argument_behind n below = has_number _ LINE_END.now GREATEST n _ below (omega arith) (λ digit. omega (arith, digit)) refl
 
-pub argument_read : (text : List ℕ) (gas : ℕ) (line : List ℕ) (i : Input) → HasNumber text GAS.now largest_gas gas line → IsInput text i → HasNumber line LINE_END.now GREATEST i.argument LINE_END.now
-argument_read text gas line i read is =
-    let same = (one_number text GAS.now largest_gas gas line i.gas _ read (gas_behind text i is)).1 in
+pub argument_read : (program : Program) (text : List ℕ) (gas : ℕ) (line : List ℕ) (i : Input) → HasNumber text GAS.now largest_gas gas line → IsInput program text i → HasNumber line LINE_END.now GREATEST i.argument LINE_END.now
+argument_read program text gas line i read is =
+    let same = (one_number text GAS.now largest_gas gas line i.gas _ read (gas_behind program text i is)).1 in
     rw same (argument_behind i.argument (omega (arith, is.argument_below)))
 
-pub end_is : (text : List ℕ) (gas : ℕ) (line : List ℕ) (argument : ℕ) (end : List ℕ) (i : Input) → HasNumber text GAS.now largest_gas gas line → HasNumber line LINE_END.now GREATEST argument end → IsInput text i → (argument ≡ i.argument) × (end ≡ LINE_END.now)
-end_is text gas line argument end i first second is =
-    one_number line LINE_END.now GREATEST argument end i.argument _ second (argument_read text gas line i first is)
+pub end_is : (program : Program) (text : List ℕ) (gas : ℕ) (line : List ℕ) (argument : ℕ) (end : List ℕ) (i : Input) → HasNumber text GAS.now largest_gas gas line → HasNumber line LINE_END.now GREATEST argument end → IsInput program text i → (argument ≡ i.argument) × (end ≡ LINE_END.now)
+end_is program text gas line argument end i first second is =
+    one_number line LINE_END.now GREATEST argument end i.argument _ second (argument_read program text gas line i first is)
 
 -- two lines put together
 whole_lines : (text front gas line between argument end last : List ℕ) → text ≡ front ++ (gas ++ line) → line ≡ between ++ (argument ++ end) → end ≡ last → text ≡ front ++ (gas ++ (between ++ (argument ++ last)))
 whole_lines text front gas line between argument end last a b c = cc
 
 -- a text that was read to its end is the input's
-pub is_input : (text : List ℕ) (gas : ℕ) (line : List ℕ) (argument : ℕ) (end : List ℕ) (n : ℕ) → HasNumber text GAS.now largest_gas gas line → HasNumber line LINE_END.now GREATEST argument end → end ≡ LINE_END.now → n ≡ argument % modulus → IsInput text (record { gas = gas; argument = n })
-is_input text gas line argument end n first second last is = rw (is, remainder_same argument (omega (arith, second.below))) record {
+pub is_input : (program : Program) (text : List ℕ) (gas : ℕ) (line : List ℕ) (argument : ℕ) (end : List ℕ) (n : ℕ) → HasNumber text GAS.now largest_gas gas line → HasNumber line LINE_END.now GREATEST argument end → end ≡ LINE_END.now → n ≡ argument % modulus → IsInput program text (record { gas = gas; argument = n })
+is_input program text gas line argument end n first second last is = rw (is, remainder_same argument (omega (arith, second.below))) record {
   gas_below = omega (arith, first.below);
   argument_below = omega (arith, second.below);
   text_is = whole_lines text GAS.now (decimal gas) line LINE_END.now (decimal argument) end LINE_END.now
@@ -140,11 +140,11 @@ is_input text gas line argument end n first second last is = rw (is, remainder_s
 }
 
 -- a text is one input's at most
-pub one_input : (text : List ℕ) (p q : Input) → IsInput text p → IsInput text q → p ≡ q
-one_input text p q p_is q_is =
-    let first = gas_behind text p p_is in
-    let gas = (one_number text GAS.now largest_gas p.gas _ q.gas _ first (gas_behind text q q_is)).0 in
-    let argument = (end_is text p.gas _ p.argument _ q first (argument_behind p.argument (omega (arith, p_is.argument_below))) q_is).0 in
+pub one_input : (program : Program) (text : List ℕ) (p q : Input) → IsInput program text p → IsInput program text q → p ≡ q
+one_input program text p q p_is q_is =
+    let first = gas_behind program text p p_is in
+    let gas = (one_number text GAS.now largest_gas p.gas _ q.gas _ first (gas_behind program text q q_is)).0 in
+    let argument = (end_is program text p.gas _ p.argument _ q first (argument_behind p.argument (omega (arith, p_is.argument_below))) q_is).0 in
     same_input p.gas p.argument q.gas q.argument gas argument
   where
     same_input : (gas argument other_gas other_argument : ℕ) → gas ≡ other_gas → argument ≡ other_argument → ◌≡◌ {A = Input} (record { gas = gas; argument = argument }) (record { gas = other_gas; argument = other_argument })

@@ -140,7 +140,7 @@ pub record Ended (m : ℕ → Option ℕ) (states : List State) (result : ℕ) :
   pub result_is : m (difference last.ap 1) ≡ Some result
 
 module _ (program : Program) (input : Input) (rc : ℕ) (m : ℕ → Option ℕ) (states : List State)
-    (accepts : Accepts (code_of program) (parameter_types program) (arguments_of input) rc m states) where
+    (accepts : Accepts (code_of program) (parameter_types program) (arguments_of program input) rc m states) where
   pub ends : Ended m states (sum input.argument program.constant)
   ends =
       let base = accepts.base in
@@ -154,7 +154,7 @@ module _ (program : Program) (input : Input) (rc : ℕ) (m : ℕ → Option ℕ)
       let fourth = goes_by m states accepts.goes_on accepts.final 2 _ third_is (λ e. absurd (omega arith)) in
       let returned = returns m (sum (sum base 2) 1) (sum base 2) fourth.follower fourth.step (accepts.code_cells 6 (omega arith)) in
       let at_end : fourth.follower.pc ≡ 2 = one_in (m (sum base 1)) fourth.follower.pc 2 (subst (λ at. m at ≡ Some fourth.follower.pc) (back_cell base) returned.pc_is) called.back in
-      let argument = one_below m base (arguments_of input) accepts.argument_cells in
+      let argument = one_below m base (arguments_of program input) accepts.argument_cells in
       let argument_given : input.argument ≡ argument.number_there = one_number _ _ argument.value_is in
       let argument_is : added.argument ≡ input.argument = one_in (m (difference base 1)) added.argument input.argument (subst (λ at. m at ≡ Some added.argument) (argument_cell base) added.argument_is) (subst (λ n. m (difference base 1) ≡ Some n) (sym argument_given) argument.listed) in
       record {

@@ -22,7 +22,7 @@ use Rattle.sierra_tool.specs.declared.command.Source.{Source}
 use Rattle.sierra_tool.specs.declared.command.Source.TheVariants as sources
 use Rattle.sierra_tool.specs.declared.program.Program.{Program}
 use Rattle.sierra_tool.specs.declared.input.Input.{Input}
-use Rattle.sierra_tool.specs.Causes.{Reading, absent, unread, found, Readings, Gives, AreReadings, Holds, IsTooLong, IsRunFile, CanRun, ComesTo, Cause}
+use Rattle.sierra_tool.specs.Causes.{Reading, absent, unread, found, SourceReadings, Gives, AreReadings, Holds, IsTooLong, IsRunFile, CanRun, ComesTo, Cause}
 use Rattle.sierra_tool.specs.Command.{limit}
 use Rattle.sierra_tool.specs.Exact.{reading_of}
 use Rattle.sierra_tool.specs.Forms.{IsProgram, IsInput}
@@ -101,7 +101,7 @@ uncounted a b answer not_missing not_failed =
 
 -- ---- The cause of each refusal
 
-unfit_cause : (command : Command) (readings : Readings) (source : Source) (answer : Answer) → ComesTo command readings source → IsUnfit source (readings source) answer → Cause (Some command) readings answer
+unfit_cause : (command : Command) (readings : SourceReadings) (source : Source) (answer : Answer) → ComesTo command readings source → IsUnfit source (readings source) answer → Cause (Some command) readings answer
 unfit_cause command readings source answer comes (inl unfit) = subst (Cause (Some command) readings) (sym unfit.1) (comes, unfit.0)
 unfit_cause command readings source answer comes (inr (inl unfit)) = subst (Cause (Some command) readings) (sym unfit.1) (comes, unfit.0)
 unfit_cause command readings source answer comes (inr (inr unfit)) = subst (Cause (Some command) readings) (sym unfit.1) (comes, unfit.0)
@@ -109,7 +109,7 @@ unfit_cause command readings source answer comes (inr (inr unfit)) = subst (Caus
 -- ---- A check
 
 -- what its sources gave
-abbrev of_three : Reading → Reading → Reading → Readings
+abbrev of_three : Reading → Reading → Reading → SourceReadings
 of_three program input run sources.Program = program
 of_three program input run sources.Input = input
 of_three program input run sources.Run = run
@@ -126,8 +126,8 @@ on_stop P Q M N refused out_of_memory stops.OutOfMemory h = out_of_memory h
 abbrev pub TakesProgram : Reading → Program → Type 0
 TakesProgram given program = Holds sources.Program given (λ text. IsProgram text program)
 
-abbrev pub TakesInput : Reading → Input → Type 0
-TakesInput given input = Holds sources.Input given (λ text. IsInput text input)
+abbrev pub TakesInput : Program → Reading → Input → Type 0
+TakesInput program given input = Holds sources.Input given (λ text. IsInput program text input)
 
 abbrev pub TakesRun : Reading → Run → Type 0
 TakesRun given run = Holds sources.Run given (λ bytes. IsRunFile bytes run)
@@ -153,14 +153,14 @@ stops_at_program check before now stop part =
     }
 
 -- .. at the input, ..
-pub stops_at_input : (check : Check) (before middle now : FilesView) (program : Program) (stop : Stop) → ReadsSource before middle check.program.now TakesProgram (IsRefused sources.Program NoProgram) (Ok program) → ReadsSource middle now check.input.now TakesInput (IsRefused sources.Input NoInput) (Err stop) → Works before now (Some (commands.Check check)) (Err stop)
+pub stops_at_input : (check : Check) (before middle now : FilesView) (program : Program) (stop : Stop) → ReadsSource before middle check.program.now TakesProgram (IsRefused sources.Program NoProgram) (Ok program) → ReadsSource middle now check.input.now (TakesInput program) (IsRefused sources.Input (NoInput program)) (Err stop) → Works before now (Some (commands.Check check)) (Err stop)
 stops_at_input check before middle now program stop first part =
     let known = before.contents in
     let run = usual known check.run.now in
     let readings = of_three first.reading part.reading run in
     let command : Command = commands.Check check in
     let gives = subst (λ contents. Gives contents check.input.now part.reading) first.keeps.contents part.given in
-    let caused : (answer : Answer) → IsRefused sources.Input NoInput part.reading answer → Cause (Some command) readings answer = λ answer refused. elim refused [
+    let caused : (answer : Answer) → IsRefused sources.Input (NoInput program) part.reading answer → Cause (Some command) readings answer = λ answer refused. elim refused [
       | inl unfit ↦ unfit_cause command readings sources.Input answer (refl, program, first.outcome) unfit
       | inr held ↦ subst (Cause (Some command) readings) (sym held.3.1) (inr (program, first.outcome, (held.0, held.1, held.2, held.3.0)))
     ] in
@@ -168,13 +168,13 @@ stops_at_input check before middle now program stop first part =
       keeps = Keeps-more before middle now first.keeps part.keeps;
       readings = readings;
       given = are_given known check first.reading part.reading run first.given gives (usual_gives known check.run.now);
-      outcome = on_stop (λ answer. IsRefused sources.Input NoInput part.reading answer × IsCounted middle now answer) (IsCaused before now (Some command) readings) (part.reading ≢ absent) (MayHaveFirst known (Some command))
+      outcome = on_stop (λ answer. IsRefused sources.Input (NoInput program) part.reading answer × IsCounted middle now answer) (IsCaused before now (Some command) readings) (part.reading ≢ absent) (MayHaveFirst known (Some command))
           (λ answer refused. (caused answer refused.0, later_counted before middle now answer first.keeps refused.1))
           (λ present. may_be_there known check.program.now first.reading first.given (held_present sources.Program first.reading (λ text. IsProgram text program) first.outcome)) stop part.outcome;
     }
 
 -- .. for too little gas, ..
-pub stops_at_gas : (check : Check) (before middle now : FilesView) (program : Program) (input : Input) (need given : ℕ) → ReadsSource before middle check.program.now TakesProgram (IsRefused sources.Program NoProgram) (Ok program) → ReadsSource middle now check.input.now TakesInput (IsRefused sources.Input NoInput) (Ok input) → given < need → need ≡ entry_gas program → given ≡ input.gas → Works before now (Some (commands.Check check)) (Err (stops.Refused (answers.NotEnoughGas need given)))
+pub stops_at_gas : (check : Check) (before middle now : FilesView) (program : Program) (input : Input) (need given : ℕ) → ReadsSource before middle check.program.now TakesProgram (IsRefused sources.Program NoProgram) (Ok program) → ReadsSource middle now check.input.now (TakesInput program) (IsRefused sources.Input (NoInput program)) (Ok input) → given < need → need ≡ entry_gas program → given ≡ input.gas → Works before now (Some (commands.Check check)) (Err (stops.Refused (answers.NotEnoughGas need given)))
 stops_at_gas check before middle now program input need given first second less need_is given_is =
     let known = before.contents in
     let run = usual known check.run.now in
@@ -186,7 +186,7 @@ stops_at_gas check before middle now program input need given first second less 
     }
 
 -- .. or at the run; ..
-pub stops_at_run : (check : Check) (before middle third now : FilesView) (program : Program) (input : Input) (stop : Stop) → ReadsSource before middle check.program.now TakesProgram (IsRefused sources.Program NoProgram) (Ok program) → ReadsSource middle third check.input.now TakesInput (IsRefused sources.Input NoInput) (Ok input) → entry_gas program ≤ input.gas → ReadsSource third now check.run.now TakesRun (IsRefused sources.Run NoRun) (Err stop) → Works before now (Some (commands.Check check)) (Err stop)
+pub stops_at_run : (check : Check) (before middle third now : FilesView) (program : Program) (input : Input) (stop : Stop) → ReadsSource before middle check.program.now TakesProgram (IsRefused sources.Program NoProgram) (Ok program) → ReadsSource middle third check.input.now (TakesInput program) (IsRefused sources.Input (NoInput program)) (Ok input) → entry_gas program ≤ input.gas → ReadsSource third now check.run.now TakesRun (IsRefused sources.Run NoRun) (Err stop) → Works before now (Some (commands.Check check)) (Err stop)
 stops_at_run check before middle third now program input stop first second enough part =
     let known = before.contents in
     let keeps = Keeps-more before middle third first.keeps second.keeps in
@@ -209,7 +209,7 @@ stops_at_run check before middle third now program input stop first second enoug
     }
 
 -- .. or memory runs out at the verdict, ..
-pub runs_out : (check : Check) (before middle third now : FilesView) (program : Program) (input : Input) (run : Run) → ReadsSource before middle check.program.now TakesProgram (IsRefused sources.Program NoProgram) (Ok program) → ReadsSource middle third check.input.now TakesInput (IsRefused sources.Input NoInput) (Ok input) → ReadsSource third now check.run.now TakesRun (IsRefused sources.Run NoRun) (Ok run) → Works before now (Some (commands.Check check)) (Err stops.OutOfMemory)
+pub runs_out : (check : Check) (before middle third now : FilesView) (program : Program) (input : Input) (run : Run) → ReadsSource before middle check.program.now TakesProgram (IsRefused sources.Program NoProgram) (Ok program) → ReadsSource middle third check.input.now (TakesInput program) (IsRefused sources.Input (NoInput program)) (Ok input) → ReadsSource third now check.run.now TakesRun (IsRefused sources.Run NoRun) (Ok run) → Works before now (Some (commands.Check check)) (Err stops.OutOfMemory)
 runs_out check before middle third now program input run first second part =
     let known = before.contents in
     let keeps = Keeps-more before middle third first.keeps second.keeps in
@@ -223,7 +223,7 @@ runs_out check before middle third now program input run first second part =
     }
 
 -- .. or it comes to the end
-pub ends : (check : Check) (before middle third now : FilesView) (program : Program) (input : Input) (run : Run) (answer : Answer) → ReadsSource before middle check.program.now TakesProgram (IsRefused sources.Program NoProgram) (Ok program) → ReadsSource middle third check.input.now TakesInput (IsRefused sources.Input NoInput) (Ok input) → entry_gas program ≤ input.gas → ReadsSource third now check.run.now TakesRun (IsRefused sources.Run NoRun) (Ok run) → OfRun program input run answer → Works before now (Some (commands.Check check)) (Ok answer)
+pub ends : (check : Check) (before middle third now : FilesView) (program : Program) (input : Input) (run : Run) (answer : Answer) → ReadsSource before middle check.program.now TakesProgram (IsRefused sources.Program NoProgram) (Ok program) → ReadsSource middle third check.input.now (TakesInput program) (IsRefused sources.Input (NoInput program)) (Ok input) → entry_gas program ≤ input.gas → ReadsSource third now check.run.now TakesRun (IsRefused sources.Run NoRun) (Ok run) → OfRun program input run answer → Works before now (Some (commands.Check check)) (Ok answer)
 ends check before middle third now program input run answer first second enough part of_run =
     let known = before.contents in
     let keeps = Keeps-more before middle third first.keeps second.keeps in
@@ -248,13 +248,13 @@ ends check before middle third now program input run answer first second enough 
 -- ---- An answer that was delivered
 
 -- a first file that isn't missing may be there
-pub first_may_be_there : (known : Option FileMap) (command : Command) (readings : Readings) (answer : Answer) → AreReadings known (Some command) readings → Cause (Some command) readings answer → IsNotMissing answer → MayHaveFirst known (Some command)
+pub first_may_be_there : (known : Option FileMap) (command : Command) (readings : SourceReadings) (answer : Answer) → AreReadings known (Some command) readings → Cause (Some command) readings answer → IsNotMissing answer → MayHaveFirst known (Some command)
 first_may_be_there known (commands.Check check) readings answer given cause not_missing =
     may_be_there known check.program.now (readings sources.Program) (given sources.Program)
     (λ is. not_missing sources.Program (one_answer (Some (commands.Check check)) readings answer (answers.Missing sources.Program) cause (refl, is)))
 
 -- what the tool did, where the answer of a command was delivered
-pub delivers_answer : (before now : FilesView) (out written : SinkView) (command : Command) (readings : Readings) (answer : Answer) (status : ℕ) → AreReadings before.contents (Some command) readings → IsCaused before now (Some command) readings answer → IsDelivered out written (Some command) answer status → IsAnswered before now out written (Some command) status ⊎ IsOutOfMemory before.contents out written (Some command) status
+pub delivers_answer : (before now : FilesView) (out written : SinkView) (command : Command) (readings : SourceReadings) (answer : Answer) (status : ℕ) → AreReadings before.contents (Some command) readings → IsCaused before now (Some command) readings answer → IsDelivered out written (Some command) answer status → IsAnswered before now out written (Some command) status ⊎ IsOutOfMemory before.contents out written (Some command) status
 delivers_answer before now out written command readings answer status given caused (inl delivered) =
     inl (record { readings = readings; given = given; answer = answer; cause = caused.0; counted = caused.1; delivered = delivered })
 delivers_answer before now out written command readings answer status given caused (inr (is, nothing, not_missing)) =

@@ -60,8 +60,8 @@ IsInRange m rc k = (word : ℕ) → m (sum rc k) ≡ Some word → word < range_
 abbrev pub AllInRange : (ℕ → Option ℕ) → ℕ → ℕ → Type 0
 AllInRange m rc count = (k : ℕ) → k < count → IsInRange m rc k
 
--- A run of this code with these arguments is accepted: rc, the memory, and the states from the first to the last. Each
--- part is what one rejection says the contrary of, and they stand in the order of the rejections.
+-- A run of this code with these arguments is accepted: rc, the memory, and the states from the first to the last. The
+-- parts are in the order of the rejections: each but the first, on the number of states, has those that say it fails.
 pub record Accepts (code : List ℕ) (types : List Ty) (arguments : List Val) (rc : ℕ) (m : ℕ → Option ℕ) (states : List State) : Type 0 where
   pub few : length states ≤ most_states
   pub code_cells : HoldsCode m code

@@ -19,7 +19,7 @@ use Rattle.sierra_tool.specs.Meaning.{entry_gas}
 use Rattle.sierra_tool.specs.Rejected.{IsRejected}
 use Rattle.sierra_tool.specs.Runs.{IsAccepted, IsVerdict}
 
--- ---- Readings: what each source gave
+-- ---- SourceReadings: what each source gave
 
 -- no file of the name, a read that failed, or the file's bytes
 pub data Reading : Type 0 where
@@ -27,8 +27,8 @@ pub data Reading : Type 0 where
   unread : Reading
   found : List ℕ → Reading
 
-abbrev pub Readings : Type 0
-Readings = Source → Reading
+abbrev pub SourceReadings : Type 0
+SourceReadings = Source → Reading
 
 -- What a file can give: of a known map what it has there, or, of a file that it has, a failed read; else anything.
 abbrev pub Gives : Option FileMap → List ℕ → Reading → Type 0
@@ -36,7 +36,7 @@ Gives None name given = Unit {0}
 Gives (Some files) name given = MatchOption (get files name) (given ≡ absent) (λ bytes. (given ≡ found bytes) ⊎ (given ≡ unread))
 
 -- what the files can give to a command
-abbrev pub AreReadings : Option FileMap → Option Command → Readings → Type 0
+abbrev pub AreReadings : Option FileMap → Option Command → SourceReadings → Type 0
 AreReadings known command readings =
     (source : Source) → MatchOption (name_of command source) (readings source ≡ absent) (λ name. Gives known name (readings source))
 
@@ -54,23 +54,23 @@ IsTooLong source given = (bytes : List ℕ) × (given ≡ found bytes) × (limit
 abbrev pub IsRunFile : List ℕ → Run → Type 0
 IsRunFile bytes run = IsRun run × (bytes ≡ spelling run)
 
-abbrev pub HasProgram : Readings → Program → Type 0
+abbrev pub HasProgram : SourceReadings → Program → Type 0
 HasProgram readings program = Holds sources.Program (readings sources.Program) (λ text. IsProgram text program)
 
-abbrev pub HasInput : Readings → Program → Input → Type 0
-HasInput readings program input = Holds sources.Input (readings sources.Input) (λ text. IsInput text input)
+abbrev pub HasInput : SourceReadings → Program → Input → Type 0
+HasInput readings program input = Holds sources.Input (readings sources.Input) (λ text. IsInput program text input)
 
-abbrev pub HasRun : Readings → Run → Type 0
+abbrev pub HasRun : SourceReadings → Run → Type 0
 HasRun readings run = Holds sources.Run (readings sources.Run) (λ bytes. IsRunFile bytes run)
 
 -- a program and an input for it were read, and the input has the gas that a run of the program needs
-pub record CanRun (readings : Readings) (program : Program) (input : Input) : Type 0 where
+pub record CanRun (readings : SourceReadings) (program : Program) (input : Input) : Type 0 where
   pub program_read : HasProgram readings program
   pub input_read : HasInput readings program input
   pub gas : entry_gas program ≤ input.gas
 
 -- the command reads this source, and nothing that comes before it is refused
-abbrev pub ComesTo : Command → Readings → Source → Type 0
+abbrev pub ComesTo : Command → SourceReadings → Source → Type 0
 ComesTo command readings sources.Program = IsRead command sources.Program
 ComesTo command readings sources.Input = IsRead command sources.Input × (program : Program) × HasProgram readings program
 ComesTo command readings sources.Run =
@@ -83,7 +83,7 @@ IsNoRunFile bytes refusal = ((run : Run) → IsRunFile bytes run → ⊥) × (re
 -- ---- Causes
 
 -- What causes each answer to a command, in the order of work. Arguments that are no command are not built.
-abbrev pub Cause : Option Command → Readings → Answer → Type 0
+abbrev pub Cause : Option Command → SourceReadings → Answer → Type 0
 Cause None readings answer = answer ≡ answers.NotBuilt
 Cause (Some command) readings (answers.Missing source) = ComesTo command readings source × (readings source ≡ absent)
 Cause (Some command) readings (answers.ReadFault source) = ComesTo command readings source × (readings source ≡ unread)
@@ -91,7 +91,7 @@ Cause (Some command) readings (answers.TooLong source) = ComesTo command reading
 Cause (Some command) readings answers.NotBuilt =
     Holds sources.Program (readings sources.Program) (λ text. (program : Program) → IsProgram text program → ⊥)
     ⊎ ((program : Program) × HasProgram readings program
-    × Holds sources.Input (readings sources.Input) (λ text. (input : Input) → IsInput text input → ⊥))
+    × Holds sources.Input (readings sources.Input) (λ text. (input : Input) → IsInput program text input → ⊥))
 Cause (Some command) readings (answers.NotEnoughGas need given) =
     (program : Program) × (input : Input)
     × HasProgram readings program × HasInput readings program input × (given < need) × (need ≡ entry_gas program) × (given ≡ input.gas)

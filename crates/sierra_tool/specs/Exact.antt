@@ -5,7 +5,13 @@ use Rattle.std.specs.Option.{option_and_then}
 use Rattle.edge_io.specs.Files.{FileMap}
 use Rattle.sierra_tool.specs.declared.answer.Answer.{Answer}
 use Rattle.sierra_tool.specs.declared.command.Command.{Command}
-use Rattle.sierra_tool.specs.Causes.{Reading, absent, found, Readings, Cause}
+use Rattle.run_file.specs.declared.run.Run.{Run}
+use Rattle.sierra_tool.specs.declared.command.Check.{Check}
+use Rattle.sierra_tool.specs.declared.command.Command.TheVariants as commands
+use Rattle.sierra_tool.specs.declared.program.Program.{Program}
+use Rattle.sierra_tool.specs.declared.input.Input.{Input}
+use Rattle.sierra_tool.specs.Causes.{Reading, absent, found, SourceReadings, Cause, CanRun, HasRun}
+use Rattle.sierra_tool.specs.Runs.{IsAccepted}
 use Rattle.sierra_tool.specs.Command.{Parses, name_of, status_of}
 
 -- what a file that is there, or isn't, gives where no read fails
@@ -14,13 +20,22 @@ reading_of None = absent
 reading_of (Some bytes) = found bytes
 
 -- the readings of a known map where no read fails; a source that the command doesn't read has no file
-abbrev pub readings_of : FileMap → Option Command → Readings
+abbrev pub readings_of : FileMap → Option Command → SourceReadings
 readings_of files command source = reading_of (option_and_then (get files) (name_of command source))
 
+-- a program, an input that has the gas, and a run were read, and this holds of the run
+abbrev pub HasRunThat : SourceReadings → (Program → Input → Run → Type 0) → Type 0
+HasRunThat readings is = (program : Program) × (input : Input) × (run : Run) × CanRun readings program input × HasRun readings run × is program input run
+
 -- Of known files, without a failed read or write and not out of memory, each status comes if and only if an answer of this
--- status has its cause in what the files have.
+-- status has its cause in what the files have. So a check ends with 0 if and only if the run is accepted, and with 15 if
+-- and only if it isn't.
+pub record HasExactStatus (files : FileMap) (command : Option Command) (status : ℕ) : Type 0 where
+  pub each : (k : ℕ) → (status ≡ k) ↔ ((answer : Answer) × (status_of answer ≡ k) × Cause command (readings_of files command) answer)
+  pub accepted : (check : Check) → command ≡ Some (commands.Check check) → (status ≡ 0) ↔ HasRunThat (readings_of files command) IsAccepted
+  pub rejected : (check : Check) → command ≡ Some (commands.Check check) → (status ≡ 15) ↔ HasRunThat (readings_of files command) (λ program input run. IsAccepted program input run → ⊥)
+
 abbrev pub IsExact : List (List ℕ) → Option FileMap → ℕ → Type 0
 IsExact arguments None status = Unit {0}
 IsExact arguments (Some files) status =
-    status ≢ 4 → status ≢ 5 → status ≢ 6 → (command : Option Command) → Parses arguments command →
-    (k : ℕ) → (status ≡ k) ↔ ((answer : Answer) × (status_of answer ≡ k) × Cause command (readings_of files command) answer)
+    status ≢ 4 → status ≢ 5 → status ≢ 6 → (command : Option Command) → Parses arguments command → HasExactStatus files command status

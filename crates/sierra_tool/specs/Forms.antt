@@ -23,8 +23,9 @@ pub record IsProgram (text : List ℕ) (program : Program) : Type 0 where
   pub below : program.constant < modulus
   pub text_is : text ≡ program_text (decimal program.constant)
 
--- the text is that of the input: its gas below 2 ^ 32, its argument below P, both without a leading zero
-pub record IsInput (text : List ℕ) (input : Input) : Type 0 where
+-- The text is that of an input of the program: its gas below 2 ^ 32, its argument below P, both without a leading zero.
+-- Every program that is built takes one number of the field.
+pub record IsInput (program : Program) (text : List ℕ) (input : Input) : Type 0 where
   pub gas_below : input.gas < 2 ^ 32
   pub argument_below : input.argument < modulus
   pub text_is : text ≡ input_text (decimal input.gas) (decimal input.argument)

@@ -23,8 +23,8 @@ abbrev pub result_types : Program → List Ty
 result_types program = number felt64 ∷ []
 
 -- the arguments of main, in order
-abbrev pub arguments_of : Input → List Val
-arguments_of input = Number felt64 input.argument ∷ []
+abbrev pub arguments_of : Program → Input → List Val
+arguments_of program input = Number felt64 input.argument ∷ []
 
 -- The meaning: main gives the argument plus the constant in the field, and doesn't panic.
 pub record Means (program : Program) (input : Input) (outcome : Outcome) : Type 0 where

@@ -77,4 +77,4 @@ Rejects code types arguments rc m states fault =
 
 -- the run of the program's code on the input is rejected for this fault
 abbrev pub IsRejected : Program → Input → Run → CheckFault → Type 0
-IsRejected program input run = Rejects (code_of program) (parameter_types program) (arguments_of input) run.rc (get run.memory) run.states
+IsRejected program input run = Rejects (code_of program) (parameter_types program) (arguments_of program input) run.rc (get run.memory) run.states

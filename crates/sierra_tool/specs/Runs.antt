@@ -13,7 +13,7 @@ use Rattle.sierra_tool.specs.Values.{StandAll, sizes, meant}
 
 -- the run of the program's code on the input is accepted
 abbrev pub IsAccepted : Program → Input → Run → Type 0
-IsAccepted program input run = Accepts (code_of program) (parameter_types program) (arguments_of input) run.rc (get run.memory) run.states
+IsAccepted program input run = Accepts (code_of program) (parameter_types program) (arguments_of program input) run.rc (get run.memory) run.states
 
 -- The verdict that the run itself shows: its values stand in the cells that end below the last state's ap. Main has
 -- no gas builtin, so its gas left is the input's less what the program needs; it has no range check builtin, so it

@@ -14,7 +14,7 @@ use Rattle.sierra_tool.specs.declared.output.Unwritten.{Unwritten}
 use Rattle.sierra_tool.specs.declared.output.Unwritten.TheVariants as unwritten
 use Rattle.sierra_tool.specs.declared.program.Program.{Program}
 use Rattle.sierra_tool.specs.declared.input.Input.{Input}
-use Rattle.sierra_tool.specs.Causes.{Reading, absent, unread, found, Readings, Gives, AreReadings, Holds, IsTooLong, IsNoRunFile, Cause}
+use Rattle.sierra_tool.specs.Causes.{Reading, absent, unread, found, SourceReadings, Gives, AreReadings, Holds, IsTooLong, IsNoRunFile, Cause}
 use Rattle.sierra_tool.specs.Forms.{IsProgram, IsInput}
 use Rattle.sierra_tool.specs.Rejected.{IsRejected}
 use Rattle.sierra_tool.specs.Runs.{IsAccepted, IsVerdict}
@@ -42,8 +42,8 @@ IsRefused source wrong given answer = IsUnfit source given answer ⊎ Holds sour
 abbrev pub NoProgram : List ℕ → Answer → Type 0
 NoProgram text answer = ((program : Program) → IsProgram text program → ⊥) × (answer ≡ answers.NotBuilt)
 
-abbrev pub NoInput : List ℕ → Answer → Type 0
-NoInput text answer = ((input : Input) → IsInput text input → ⊥) × (answer ≡ answers.NotBuilt)
+abbrev pub NoInput : Program → List ℕ → Answer → Type 0
+NoInput program text answer = ((input : Input) → IsInput program text input → ⊥) × (answer ≡ answers.NotBuilt)
 
 abbrev pub NoRun : List ℕ → Answer → Type 0
 NoRun bytes answer = (refusal : FileRefusal) × IsNoRunFile bytes refusal × (answer ≡ answers.RunRefused refusal)
@@ -63,13 +63,13 @@ abbrev pub IsFound : Source → Reading → List ℕ → Type 0
 IsFound source given bytes = (given ≡ found bytes) × (length bytes ≤ limit source)
 
 -- the readings cause this answer, and its count rose
-abbrev pub IsCaused : FilesView → FilesView → Option Command → Readings → Answer → Type 0
+abbrev pub IsCaused : FilesView → FilesView → Option Command → SourceReadings → Answer → Type 0
 IsCaused before now command readings answer = Cause command readings answer × IsCounted before now answer
 
 -- A command's work: the files gave readings, and the result comes from them.
 pub record Works (before now : FilesView) (command : Option Command) (result : Result Answer Stop) : Type 0 where
   pub keeps : Keeps before now
-  pub readings : Readings
+  pub readings : SourceReadings
   pub given : AreReadings before.contents command readings
   pub outcome : MatchResult result (IsCaused before now command readings) (Stops (IsCaused before now command readings) (MayHaveFirst before.contents command))
 

@@ -7,7 +7,7 @@ use Rattle.sierra_tool.specs.declared.answer.Answer.{Answer}
 use Rattle.sierra_tool.specs.declared.answer.Answer.TheVariants as answers
 use Rattle.sierra_tool.specs.declared.command.Command.{Command}
 use Rattle.sierra_tool.specs.declared.command.Source.{Source}
-use Rattle.sierra_tool.specs.Causes.{Readings, AreReadings, Cause}
+use Rattle.sierra_tool.specs.Causes.{SourceReadings, AreReadings, Cause}
 use Rattle.sierra_tool.specs.Command.{Parses, first_name, status_of, text_of}
 
 -- a missing file comes only with a miss that was counted, and a failed read with a fault
@@ -31,7 +31,7 @@ IsOutOfMemory known before now command status = (status ≡ 6) × MayHaveFirst k
 
 -- the answer that what the files gave causes was written
 pub record IsAnswered (before now : FilesView) (out written : SinkView) (command : Option Command) (status : ℕ) : Type 0 where
-  pub readings : Readings
+  pub readings : SourceReadings
   pub given : AreReadings before.contents command readings
   pub answer : Answer
   pub cause : Cause command readings answer

@@ -19,11 +19,11 @@ use std::alloc::Global;
 
 impl Check<'_> {
     /// Reads the three files, each where what came before it isn't refused, and judges the run.
-    pub fn answer<F: Files>(&self, alloc: Global, files: &mut F) -> Result<Answer, Stop>
+    pub(crate) fn answer<F: Files>(&self, alloc: Global, files: &mut F) -> Result<Answer, Stop>
         ensures { Works (F.view files.old) (F.view files.new) (Some (commands.Check self.now)) result }
     {
         let program = program(alloc, files, self.program)?;
-        let input = input(alloc, files, self.input)?;
+        let input = input(alloc, files, &program, self.input)?;
         let need = entry_gas(&program);
         if input.gas < need {
             return Err(Stop::Refused(Answer::NotEnoughGas {
@@ -68,11 +68,16 @@ fn program<F: Files>(alloc: Global, files: &mut F, name: &str) -> Result<Program
     }
 }
 
-/// The input of a file.
-fn input<F: Files>(alloc: Global, files: &mut F, name: &str) -> Result<Input, Stop>
+/// The input of a file. Every program that is built takes one number, so it isn't looked at.
+fn input<F: Files>(
+    alloc: Global,
+    files: &mut F,
+    _program: &Program,
+    name: &str,
+) -> Result<Input, Stop>
     ensures { ReadsSource (F.view files.old) (F.view files.new) name.now
-        (λ given input. Holds Source.Input given (λ text. IsInput text input))
-        (IsRefused Source.Input NoInput) result }
+        (λ given input. Holds Source.Input given (λ text. IsInput _program.now text input))
+        (IsRefused Source.Input (NoInput _program.now)) result }
 {
     let text = bytes(alloc, files, Source::Input, name)?;
     match read_input(&text) {

@@ -2,6 +2,7 @@
 //! is goes out, where it is one. The check reads it.
 
 ghost use Rattle.std.specs.Prelude.{◌≡◌, ◌↔◌, Some};
+ghost use Rattle.sierra_tool.specs.declared.program.Program.{Program};
 ghost use Rattle.sierra_tool.specs.Forms.{IsInput};
 
 use crate::scan::number_behind;
@@ -22,7 +23,7 @@ const LINE_END: &[u8] = b"\n";
 
 /// The input of a text, where it is of the form.
 pub fn read_input(text: &[u8]) -> Option<Input>
-    ensures { (input : Input) → (result ≡ Some input) ↔ IsInput text.now input }
+    ensures { (program : Program) (input : Input) → (result ≡ Some input) ↔ IsInput program text.now input }
 {
     let (gas, line) = number_behind(text, GAS, u32::MAX as u128)?;
     let (argument, end) = number_behind(line, LINE_END, MODULUS as u128 - 1)?;

@@ -15,7 +15,7 @@ ghost use Rattle.sierra_tool.specs.declared.answer.Answer.{Answer};
 ghost use Rattle.sierra_tool.specs.declared.command.Command.{Command};
 ghost use Rattle.sierra_tool.specs.declared.command.Source.{Source};
 ghost use Rattle.sierra_tool.specs.Accepted.{Accepts, most_states};
-ghost use Rattle.sierra_tool.specs.Causes.{Readings, found, Cause};
+ghost use Rattle.sierra_tool.specs.Causes.{SourceReadings, found, Cause};
 ghost use Rattle.sierra_tool.specs.Honest.{honest_run, IsNeeded};
 ghost use Rattle.sierra_tool.specs.Meaning.{entry_gas, code_of, parameter_types, arguments_of, Means};
 ghost use Rattle.sierra_tool.specs.Rejected.{IsRejected};
@@ -24,7 +24,7 @@ ghost use Rattle.sierra_tool.specs.Runs.{IsAccepted, Shows, CostsAtMost, IsVerdi
 /// Whatever an accepted run lists, the verdict that it shows is the meaning, and it costs at most the gas used.
 pub fn accepted_runs_mean()
     ensures { (program : Program) (input : Input) (rc : ℕ) (m : ℕ → Option ℕ) (states : List State) (verdict : Verdict) →
-        Accepts (code_of program) (parameter_types program) (arguments_of input) rc m states →
+        Accepts (code_of program) (parameter_types program) (arguments_of program input) rc m states →
         Shows program input rc m states verdict → Means program input verdict.outcome × CostsAtMost verdict }
 {}
 
@@ -51,15 +51,23 @@ pub fn runs_have_one_cause()
         IsRejected program input run a → IsRejected program input run b → a ≡ b }
 {}
 
+/// An accepted run with the gas that the program needs has a verdict, and one alone.
+pub fn accepted_runs_have_verdicts()
+    ensures some { (program : Program) (input : Input) (run : Run) → entry_gas program ≤ input.gas →
+        IsAccepted program input run → (verdict : Verdict) × IsVerdict program input run verdict }
+    ensures once { (program : Program) (input : Input) (run : Run) (a b : Verdict) →
+        IsVerdict program input run a → IsVerdict program input run b → a ≡ b }
+{}
+
 /// What the sources gave to a command causes one answer at most.
 pub fn one_answer()
-    ensures { (command : Option Command) (readings : Readings) (a b : Answer) →
+    ensures { (command : Option Command) (readings : SourceReadings) (a b : Answer) →
         Cause command readings a → Cause command readings b → a ≡ b }
 {}
 
 /// What they gave causes an answer, whatever it is: that it causes none can't be.
 pub fn some_answer()
-    ensures { (command : Option Command) (readings : Readings) →
+    ensures { (command : Option Command) (readings : SourceReadings) →
         ((source : Source) (bytes : List ℕ) → readings source ≡ found bytes → All (λ byte. byte < 256) bytes) →
         ((answer : Answer) → Cause command readings answer → ⊥) → ⊥ }
 {}
