@@ -4,3 +4,4 @@ pub mod CodeReading
 pub mod Words
 pub mod Refusing
 pub mod PrintedTexts
+pub mod PrintedSoFar

@@ -4,7 +4,9 @@ ghost use Rattle.std.specs.Prelude.{◌≡◌, ◌++◌, ◌<◌, OnOk, IfOk, co
 ghost use Rattle.std.specs.String.{string_bytes};
 ghost use Rattle.felt64.specs.Field.{modulus};
 ghost use Rattle.casm_text.specs.Printing.{register_text, imm_text, cell_text, operand_text, double_text, res_text, ending_text, base_text, jnz_text, instr_text, printed};
-ghost use Rattle.casm_word.specs.Bounds.{IsInstrInField, IsResInField, IsOperandInField};
+ghost use Rattle.casm_word.specs.Bounds.{IsInstrInField, IsResInField, IsOperandInField, IsInstrNear, IsResNear, IsOperandNear};
+ghost use Rattle.casm_word.specs.Offset.{IsNear};
+ghost use Rattle.casm_text.specs.Text.{Text, standard};
 
 use casm_word::{CellRef, Code, Instr, Operand, Reg, Res};
 use felt64::MODULUS;
@@ -24,7 +26,8 @@ fn push_register(text: &mut String, reg: Reg) -> Result<(), AllocError>
 /// A cell.
 #[tactic(auto, unfolding(crate::specs::Printing::cell_text))]
 fn push_cell(text: &mut String, cell: CellRef) -> Result<(), AllocError>
-    ensures { OnOk result (string_bytes text.new ≡ string_bytes text.old ++ cell_text cell) }
+    ensures text { OnOk result (string_bytes text.new ≡ string_bytes text.old ++ cell_text cell) }
+    ensures near { OnOk result (IsNear cell.off) }
 {
     push_register(text, cell.reg)?;
     text.push_str(Buffer::new().format(cell.off))?;
@@ -47,7 +50,8 @@ fn push_imm(text: &mut String, n: u64) -> Result<(), AllocError>
 /// A cell or an immediate.
 fn push_operand(text: &mut String, operand: Operand) -> Result<(), AllocError>
     requires { IsOperandInField operand }
-    ensures { OnOk result (string_bytes text.new ≡ string_bytes text.old ++ operand_text operand) }
+    ensures text { OnOk result (string_bytes text.new ≡ string_bytes text.old ++ operand_text operand) }
+    ensures near { OnOk result (IsOperandNear operand) }
 {
     match operand {
         Operand::Cell(cell) => push_cell(text, cell),
@@ -57,7 +61,8 @@ fn push_operand(text: &mut String, operand: Operand) -> Result<(), AllocError>
 
 /// A double cell.
 fn push_double(text: &mut String, cell: CellRef, inner: i16) -> Result<(), AllocError>
-    ensures { OnOk result (string_bytes text.new ≡ string_bytes text.old ++ double_text cell inner) }
+    ensures text { OnOk result (string_bytes text.new ≡ string_bytes text.old ++ double_text cell inner) }
+    ensures near { OnOk result (IsNear cell.off × IsNear inner) }
 {
     text.push_str("[")?;
     push_cell(text, cell)?;
@@ -70,7 +75,8 @@ fn push_double(text: &mut String, cell: CellRef, inner: i16) -> Result<(), Alloc
 #[tactic(auto, unfolding(crate::specs::Printing::res_text))]
 fn push_res(text: &mut String, res: Res) -> Result<(), AllocError>
     requires { IsResInField res }
-    ensures { OnOk result (string_bytes text.new ≡ string_bytes text.old ++ res_text res) }
+    ensures text { OnOk result (string_bytes text.new ≡ string_bytes text.old ++ res_text res) }
+    ensures near { OnOk result (IsResNear res) }
 {
     match res {
         Res::Cell(cell) => push_cell(text, cell),
@@ -114,7 +120,8 @@ fn push_base(text: &mut String, rel: bool) -> Result<(), AllocError>
 /// A jump with a condition.
 fn push_jnz(text: &mut String, cond: CellRef, to: Operand, ap_inc: bool) -> Result<(), AllocError>
     requires { IsOperandInField to }
-    ensures { OnOk result (string_bytes text.new ≡ string_bytes text.old ++ jnz_text cond to ap_inc) }
+    ensures text { OnOk result (string_bytes text.new ≡ string_bytes text.old ++ jnz_text cond to ap_inc) }
+    ensures near { OnOk result (IsNear cond.off × IsOperandNear to) }
 {
     text.push_str("jmp rel ")?;
     push_operand(text, to)?;
@@ -128,7 +135,8 @@ fn push_jnz(text: &mut String, cond: CellRef, to: Operand, ap_inc: bool) -> Resu
 #[tactic(auto, unfolding(crate::specs::Printing::instr_text))]
 fn push_instr(text: &mut String, i: &Instr) -> Result<(), AllocError>
     requires { IsInstrInField i.now }
-    ensures { OnOk result (string_bytes text.new ≡ string_bytes text.old ++ instr_text i.now) }
+    ensures text { OnOk result (string_bytes text.new ≡ string_bytes text.old ++ instr_text i.now) }
+    ensures near { OnOk result (IsInstrNear i.now) }
 {
     match *i {
         Instr::AssertEq { dst, res, ap_inc } => {
@@ -163,7 +171,8 @@ fn push_instr(text: &mut String, i: &Instr) -> Result<(), AllocError>
 ///
 /// Assembling it gives the code again.
 pub fn print(alloc: Global, code: &Code) -> Result<String, AllocError>
-    ensures { IfOk result (λ text. string_bytes text ≡ printed code.now) }
+    ensures printed { IfOk result (λ text. string_bytes text ≡ printed code.now) }
+    ensures is_text { IfOk result (λ text. Text standard code.now (string_bytes text)) }
 {
     let mut text = String::new(alloc);
     for i in code.instrs() {
