@@ -14,6 +14,6 @@ pub text_more : (xs : List Instr) (i : ℕ) (d : Instr) (before after : List ℕ
 text_more xs i d before after below before_is after_is =
     let one : flat_map instr_text (get_or xs i d ∷ []) ≡ instr_text (get_or xs i d) = append-nil (instr_text (get_or xs i d)) in
     let whole : printed (take (i + 1) xs) ≡ printed (take i xs) ++ flat_map instr_text (get_or xs i d ∷ []) =
-        ap printed (take_more xs i d below) ∙ flat_map-append instr_text (take i xs) (get_or xs i d ∷ []) in
+    ap printed (take_more xs i d below) ∙ flat_map-append instr_text (take i xs) (get_or xs i d ∷ []) in
     let more : printed (take (i + 1) xs) ≡ printed (take i xs) ++ instr_text (get_or xs i d) = whole ∙ ap (λ (t : List ℕ). printed (take i xs) ++ t) one in
     after_is ∙ ap (λ (b : List ℕ). b ++ instr_text (get_or xs i d)) before_is ∙ sym more

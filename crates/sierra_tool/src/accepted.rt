@@ -411,9 +411,10 @@ mod tests {
             ),
         ] {
             let mut list = Vec::new(rt.alloc());
-            for at in states {
-                list.push(state(*at))?;
+            for &(pc, ap, fp) in states {
+                list.push(state((pc, ap, fp)))?;
             }
+            assert!(rt; list.len() < 8);
             let run = Run {
                 rc: felt(rc),
                 memory: memory(rt.alloc(), at, word.map(|word| word.value()))?,

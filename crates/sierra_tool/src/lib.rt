@@ -23,7 +23,8 @@ pub use answer::Answer;
 pub use command::{Check, Command, Source};
 pub use input::Input;
 pub use laws::{
-    accepted_runs_have_verdicts, accepted_runs_mean, honest_runs_are_accepted, one_answer, runs_have_one_cause, some_answer,
+    accepted_runs_have_verdicts, accepted_runs_mean, honest_runs_are_accepted, one_answer,
+    runs_have_one_cause, some_answer,
 };
 pub use program::Program;
 pub use tool::{Shelf, sierra_tool};
