@@ -7,6 +7,8 @@ pub mod NumberFacts
 pub mod WholeTexts
 pub mod Languages
 pub mod Exact
+pub mod Repeats
+pub mod WholeReaders
 pub mod Stops
 pub mod OnePlace
 pub mod Written

@@ -225,7 +225,7 @@ module _ {K : Type 0} (limit : Option ℕ) (zero_too : Bool) (kind : K) where
       and_right (not (eqb n 0)) (is_digit byte && is_within limit (longer n byte)) (and_left (is_digit byte) (is_within limit (longer n byte)) ends) in
       rw (none, ends) refl
 
-  one_reads : (rest : List ℕ) → NoneNext is_digit rest → number_from None (49 ∷ rest) ≡ answers (Ok 1) rest
+  pub one_reads : (rest : List ℕ) → NoneNext is_digit rest → number_from None (49 ∷ rest) ≡ answers (Ok 1) rest
   one_reads rest ends = rw (or_true zero_too) (number_ends 1 rest ends)
     where
       or_true : (b : Bool) → (b || true) ≡ true

@@ -3,3 +3,4 @@ pub mod Places
 pub mod Reading
 pub mod TokenReading
 pub mod Given
+pub mod Repeating

@@ -119,7 +119,7 @@ pub fn mark<K>(rest: &mut &[u8], bytes: &[u8]) -> Result<(), Stop<K>>
 }
 
 /// Whether the byte is a letter, a digit or `_`.
-fn is_word_byte(byte: u8) -> bool
+pub fn is_word_byte(byte: u8) -> bool
     ensures { result ≡ is_word_byte byte }
 {
     (b'A' <= byte && byte <= b'Z')
@@ -129,7 +129,7 @@ fn is_word_byte(byte: u8) -> bool
 }
 
 /// Whether the byte is a digit.
-fn is_digit(byte: u8) -> bool
+pub fn is_digit(byte: u8) -> bool
     ensures { result ≡ is_digit byte }
 {
     b'0' <= byte && byte <= b'9'

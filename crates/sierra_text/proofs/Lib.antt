@@ -1,0 +1,14 @@
+pub mod LabelFacts
+pub mod LabelForms
+pub mod LabelSound
+pub mod Tokens
+pub mod LimitedLists
+pub mod LimitedForms
+pub mod ExactLists
+pub mod ExactForms
+pub mod DeclarationForms
+pub mod ProgramForms
+pub mod ListSteps
+pub mod StandardLists
+pub mod Refusing
+pub mod DeclarationSteps

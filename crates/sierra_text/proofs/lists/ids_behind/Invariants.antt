@@ -1,0 +1,11 @@
+use Rattle.std.proofs.Common.{◌≡◌, [], ◌∷◌, length}
+use Rattle.text_reading.specs.Reading.{done}
+use Rattle.sierra_text.specs.Text.{standard}
+use Rattle.sierra_text.specs.Reading.{comma_at, behind_items_at, id_at}
+use Rattle.sierra_text.proofs.lists.ids_behind.Given as goal
+
+abbrev pub invariant-loop-alloc : goal.invariant-loop-alloc
+invariant-loop-alloc l = behind_items_at comma_at 41 (id_at standard) l.ids.items l.rest.now ≡ behind_items_at comma_at 41 (id_at standard) (l.fn.first ∷ []) l.fn.rest.now
+
+abbrev pub decreases-loop-alloc : goal.decreases-loop-alloc
+decreases-loop-alloc l = length l.rest.now

@@ -1,0 +1,9 @@
+pub mod Ids
+pub mod Text
+pub mod Depth
+pub mod LabelReading
+pub mod Reading
+pub mod ProgramReading
+pub mod Parts
+pub mod Refusals
+pub mod Layout
