@@ -2,11 +2,8 @@
 # How long `check` takes, and how much memory, for a run file of add seven with further cells to just below 2^24 bytes.
 # It prints the time of `check` and of `sha256sum` of the same file, each the least of a few runs, and the peak
 # resident memory of `check`. It needs python3 and GNU time, and stands outside the gate.
-set -eu
-here=$(cd "$(dirname "${BASH_SOURCE[0]}")/.." && pwd)
+. "$(dirname "${BASH_SOURCE[0]}")/common.sh"
 data=$here/crates/sierra_cli/data
-folder=$(mktemp -d)
-trap 'rm -rf "$folder"' EXIT
 
 python3 - "$folder/padded.run" <<'P'
 import struct, sys
@@ -23,20 +20,12 @@ with open(sys.argv[1], "wb") as out:
 P
 
 "$here/sierra" check "$data/row1.sierra" "$data/row1.input" "$data/row1.run" >/dev/null
-least() {
-  for _ in 1 2 3 4 5 6 7; do
-    begin=$(date +%s%N)
-    "$@" >/dev/null
-    end=$(date +%s%N)
-    echo $(((end - begin) / 1000))
-  done | sort -n | head -n 1
-}
 program=$here/crates/sierra_cli/out/sierra_cli
 echo "file: $(stat -c %s "$folder/padded.run") bytes"
 "$program" check "$data/row1.sierra" "$data/row1.input" "$folder/padded.run"
 check=$(least "$program" check "$data/row1.sierra" "$data/row1.input" "$folder/padded.run")
 sum=$(least sha256sum "$folder/padded.run")
-echo "check: $check us, sha256sum: $sum us, ratio: $(awk "BEGIN { printf \"%.2f\", $check / $sum }")"
+echo "check: $check us, sha256sum: $sum us, ratio: $(ratio "$check" "$sum")"
 if [ -x /usr/bin/time ]; then
   /usr/bin/time -v "$program" check "$data/row1.sierra" "$data/row1.input" "$folder/padded.run" 2>&1 >/dev/null |
     awk '/Maximum resident/ { printf "peak: %d KiB, %.2f times the file\n", $NF, $NF * 1024 / 16777200 }'
