@@ -153,7 +153,7 @@ pub decimal_text_injective : (m n : ℕ) → decimal_text m ≡ decimal_text n �
 decimal_text_injective m n same = sym (digits_value-decimal_text m) ∙ (ap (digits_value 10) same ∙ digits_value-decimal_text n)
 
 -- a number of two digits or more has the text of its front, and then its last digit
-decimal_text_step : (n : ℕ) → 10 ≤ n → decimal_text n ≡ decimal_text (n / 10) ++ ((48 + n % 10) ∷ [])
+pub decimal_text_step : (n : ℕ) → 10 ≤ n → decimal_text n ≡ decimal_text (n / 10) ++ ((48 + n % 10) ∷ [])
 decimal_text_step n long =
     decimal_text-above n (omega arith)
     ∙ (ap (map (λ digit. 48 + digit)) (digits_of_step 10 n (lit≤ tt) (omega arith))
@@ -161,7 +161,7 @@ decimal_text_step n long =
     ∙ ap (λ front. front ++ ((48 + n % 10) ∷ [])) (sym (decimal_text-above (n / 10) (omega arith)))))
 
 -- the text of a digit
-decimal_text-small : (n : ℕ) → n < 10 → (48 + n) ∷ [] ≡ decimal_text n
+pub decimal_text-small : (n : ℕ) → n < 10 → decimal_text n ≡ (48 + n) ∷ []
 decimal_text-small n small = elim (cases_eq n 0) [
   | inl none ↦ rw (none, decimal_text-zero) refl
   | inr some ↦
@@ -173,7 +173,7 @@ decimal_text-small n small = elim (cases_eq n 0) [
 -- std's `decimal` is the text of each number with at most 64 digits
 pub decimal_is_decimal_text : (n : ℕ) → n < 10 ^ 64 → decimal n ≡ decimal_text n
 decimal_is_decimal_text n below = decimal_by_steps_wide (λ m text. text ≡ decimal_text m)
-    decimal_text-small
+    (λ m small. sym (decimal_text-small m small))
     (λ m front long same. rw same (sym (decimal_text_step m long)))
     n below
 

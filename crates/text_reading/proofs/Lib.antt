@@ -1,6 +1,5 @@
 pub mod Readers
 pub mod Limits
-pub mod Decimals
 pub mod BlankFacts
 pub mod TokenFacts
 pub mod NumberFacts

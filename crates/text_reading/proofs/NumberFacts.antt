@@ -2,12 +2,12 @@
 use Rattle.std.proofs.Common.{◌≡◌, ◌≢◌, ℕ, zero, suc, ◌+◌, ◌*◌, ◌-◌, ◌/◌, ◌%◌, ◌<◌, ◌≤◌, List, [], ◌∷◌, ◌++◌, Bool, true, false, cond, not, ◌||◌, ◌&&◌, eqb, leb, Option, None, Some, Result, Ok, Err, refl, sym, ◌∙◌, ap, subst, append_assoc, arith, inl, inr, ◌⊎◌}
 use Rattle.std.proofs.lemmas.Bool.{or_left, and_parts, and_from, and_right, ne_eqb, leb-true, le-leb, lt-ltb, ltb-true, cases_eq, cases_lt, cases_Bool}
 use Rattle.byte_reading.specs.Decimal.{decimal_text}
+use Rattle.byte_reading.proofs.DecimalLaws.{decimal_text-small, decimal_text_step}
 use Rattle.text_reading.specs.Tokens.{is_digit, is_within, NoneNext, Digits, Number}
 use Rattle.text_reading.specs.Reading.{Answer, Answer.answers, Reader, scan, scan_from}
 use Rattle.text_reading.specs.TokenReading.{longer, next_number, number_end, digits_at, number_at}
 use Rattle.text_reading.proofs.Readers.{not_longer, scan_short}
 use Rattle.text_reading.proofs.Limits.{Passes, Lifted, Lifted.kept, Lifted.passed, Lifts, lifts_itself, scan_never}
-use Rattle.text_reading.proofs.Decimals.{digit_text, longer_text}
 use Rattle.text_reading.proofs.TokenFacts.{number_from, number_ends, digits_is, token_lifts, IsWide, token_sound, token_complete}
 
 pub digit_bounds : (byte : ℕ) → is_digit byte ≡ true → (48 ≤ byte) × (byte ≤ 57)
@@ -22,8 +22,9 @@ digit_is byte low high = and_from (leb 48 byte) (leb byte 57) (le-leb 48 byte lo
 digit_behind : (n byte : ℕ) → 0 < n → is_digit byte ≡ true → decimal_text (longer n byte) ≡ decimal_text n ++ (byte ∷ [])
 digit_behind n byte above is =
     let bounds = digit_bounds byte is in
-    let same : 48 + (byte - 48) ≡ byte = omega arith in
-    longer_text n (byte - 48) above (omega arith) ∙ ap (λ d. decimal_text n ++ (d ∷ [])) same
+    let front : longer n byte / 10 ≡ n = omega arith in
+    let last : 48 + longer n byte % 10 ≡ byte = omega arith in
+    decimal_text_step (longer n byte) (omega arith) ∙ rw (front, last) refl
 
 module _ {K : Type 0} (limit : Option ℕ) (zero_too : Bool) (kind : K) where
   abbrev from : Option ℕ → Reader K ℕ
@@ -93,7 +94,7 @@ module _ {K : Type 0} (limit : Option ℕ) (zero_too : Bool) (kind : K) where
       first_digit is may e (inl zero_is) =
           let bytes : byte - 48 ≡ 0 = omega arith in
           let tail = sound_zero text rest m (subst (λ n. from (Some n) text ≡ answers (Ok m) rest) bytes e) in
-          let whole : byte ∷ text ≡ decimal_text 0 ++ rest = rw (digit_text 0 (omega arith), zero_is) (ap (λ (t : List ℕ). 48 ∷ t) tail.1) in (
+          let whole : byte ∷ text ≡ decimal_text 0 ++ rest = rw (decimal_text-small 0 (omega arith), zero_is) (ap (λ (t : List ℕ). 48 ∷ t) tail.1) in (
             record {
               text_is = whole ∙ ap (λ n. decimal_text n ++ rest) tail.0;
               whole = tail.2;
@@ -112,7 +113,7 @@ module _ {K : Type 0} (limit : Option ℕ) (zero_too : Bool) (kind : K) where
           let small : byte - 48 < 10 = omega arith in
           let same : 48 + (byte - 48) ≡ byte = omega arith in
           let tail = sound_more text rest (byte - 48) m above (wide_within wide (byte - 48) small) e in
-          let whole : byte ∷ text ≡ decimal_text (byte - 48) ++ text = rw (digit_text (byte - 48) small) (ap (λ d. d ∷ text) (sym same)) in
+          let whole : byte ∷ text ≡ decimal_text (byte - 48) ++ text = rw (decimal_text-small (byte - 48) small) (ap (λ d. d ∷ text) (sym same)) in
           let some_m : 0 < m = tail.3 in
           (record { text_is = whole ∙ tail.0; whole = tail.1; within = tail.2 }, λ none is_zero. omega arith)
 
@@ -137,7 +138,7 @@ module _ {K : Type 0} (limit : Option ℕ) (zero_too : Bool) (kind : K) where
           let other : eqb (48 + n) 48 ≡ false = ne_eqb (48 + n) 48 (λ e. omega arith) in
           let may : (zero_too || not (eqb (48 + n) 48)) ≡ true = rw other (always zero_too) in
           let value : (48 + n) - 48 ≡ n = omega arith in
-          rw (digit_text n small) (rw (is, may, value) refl)
+          rw (decimal_text-small n small) (rw (is, may, value) refl)
         where
           always : (b : Bool) → (b || true) ≡ true
           always true = refl
@@ -152,8 +153,7 @@ module _ {K : Type 0} (limit : Option ℕ) (zero_too : Bool) (kind : K) where
       more_digits long front =
           let digit : n % 10 < 10 = omega arith in
           let value : n / 10 * 10 + n % 10 ≡ n = omega arith in
-          let text : decimal_text n ≡ decimal_text (n / 10) ++ ((48 + n % 10) ∷ []) =
-          ap decimal_text (sym value) ∙ longer_text (n / 10) (n % 10) (omega arith) digit in
+          let text = decimal_text_step n long in
           let whole : decimal_text n ++ tail ≡ decimal_text (n / 10) ++ ((48 + n % 10) ∷ tail) =
           ap (λ (t : List ℕ). t ++ tail) text ∙ append_assoc (decimal_text (n / 10)) ((48 + n % 10) ∷ []) tail in
           ap (from None) whole ∙ front ∙ last_digit digit value
@@ -178,7 +178,7 @@ module _ {K : Type 0} (limit : Option ℕ) (zero_too : Bool) (kind : K) where
       go : (m ≡ 0) ⊎ (m ≡ 0 → ⊥) → from None (decimal_text m ++ rest) ≡ answers (Ok m) rest
       go (inl none) =
           let may : zero_too ≡ true = elim (cases_Bool zero_too) [ inl may ↦ may | inr none_too ↦ absurd (some none_too none) ] in
-          let text_is : decimal_text m ++ rest ≡ 48 ∷ rest = rw (none, digit_text 0 (omega arith)) refl in
+          let text_is : decimal_text m ++ rest ≡ 48 ∷ rest = rw (none, decimal_text-small 0 (omega arith)) refl in
           ap (from None) text_is ∙ zero_read may ∙ number_ends limit zero_too kind 0 rest form.whole ∙ ap (λ n. answers (Ok n) rest) (sym none)
       go (inr above) =
           complete_digits m m rest (omega arith) (omega arith) form.within ∙ number_ends limit zero_too kind m rest form.whole

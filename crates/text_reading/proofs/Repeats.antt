@@ -1,14 +1,14 @@
 -- Choices by what is next and turns until an end: the properties of their readers, and what they read.
-use Rattle.std.proofs.Common.{◌≡◌, ℕ, zero, suc, ◌+◌, ◌<◌, ◌≤◌, List, [], ◌∷◌, ◌++◌, length, Bool, true, false, cond, eqb, Option, None, Some, Result, Ok, Err, refl, sym, ◌∙◌, ap, subst, append_assoc, arith, inl, inr, ◌⊎◌}
-use Rattle.std.proofs.lemmas.List.{length-append, append-nil}
-use Rattle.text_reading.specs.Tokens.{Form, is_digit}
-use Rattle.text_reading.specs.Reading.{first, Answer, Answer.answers, Reader, done, go_on, ◌>>=◌, begins, branch}
+use Rattle.std.proofs.Common.{◌≡◌, ℕ, zero, suc, ◌+◌, ◌<◌, ◌≤◌, List, [], ◌∷◌, ◌++◌, length, Bool, true, false, cond, Option, Result, Ok, Err, refl, sym, ◌∙◌, ap, arith, inl, inr, ◌⊎◌}
+use Rattle.std.proofs.lemmas.List.{length-append}
+use Rattle.text_reading.specs.Tokens.{Form}
+use Rattle.text_reading.specs.Reading.{first, Answer, Answer.answers, Reader, go_on, ◌>>=◌, begins}
 use Rattle.text_reading.specs.Repeating.{begins_with, is_end, choice, repeat_within, repeat_at}
-use Rattle.text_reading.proofs.Readers.{Ends, Starts, Opens, IsReader, bind_is, bind_read, then_next, first-append, begins-first}
-use Rattle.text_reading.proofs.Limits.{Passes, Lifted, Lifted.kept, Lifted.passed, Lifts, bind_lifts}
+use Rattle.text_reading.proofs.Readers.{Ends, Starts, IsReader, bind_is, bind_read, then_next, first-append, begins-first}
+use Rattle.text_reading.proofs.Limits.{Lifted, Lifted.kept, Lifted.passed, Lifts, bind_lifts}
 use Rattle.text_reading.proofs.BlankFacts.{Fresh}
-use Rattle.text_reading.proofs.WholeTexts.{Sound, Complete, Moves}
-use Rattle.text_reading.proofs.Languages.{Reads, Limited}
+use Rattle.text_reading.proofs.WholeTexts.{Moves}
+use Rattle.text_reading.proofs.Languages.{Limited}
 use Rattle.text_reading.proofs.Exact.{IsExact, Begins}
 
 -- ---- tests of what is next

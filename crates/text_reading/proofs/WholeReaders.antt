@@ -1,5 +1,5 @@
 -- Readers of whole texts: where they stop is the place, and a stop at a number's limit is where it is passed.
-use Rattle.std.proofs.Common.{◌≡◌, ◌↔◌, ℕ, List, [], ◌∷◌, ◌++◌, length, Bool, true, false, cond, Option, None, Some, Result, Ok, Err, refl, sym, ◌∙◌, ap, subst, append_assoc}
+use Rattle.std.proofs.Common.{◌≡◌, ◌↔◌, ℕ, List, [], ◌∷◌, ◌++◌, true, Option, None, Result, Ok, Err, refl, sym, ◌∙◌, ap, subst, append_assoc}
 use Rattle.std.proofs.lemmas.List.{append-nil}
 use Rattle.text_reading.specs.Places.{Continues, IsPlace, GoesOnWithDigit}
 use Rattle.text_reading.specs.Reading.{first, Answer, Answer.answers, Reader}
