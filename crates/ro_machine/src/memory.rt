@@ -13,7 +13,7 @@ ghost use Rattle.ro_machine.specs.Stretches.{AreApart, IsPlace, map_of, Adds};
 use crate::listed_cells::{ListedCells, listed_cells};
 use crate::segment::Segment;
 use felt64::Felt;
-use std::alloc::{AllocError, AllocFailed, Global};
+use std::alloc::{AllocError, Global};
 use std::marker::Model;
 use thiserror::Error;
 
@@ -60,17 +60,6 @@ pub enum InsertFault {
     /// Memory ran out.
     #[error("out of memory")]
     Memory,
-}
-
-impl<T: Drop> From<AllocFailed<T>> for InsertFault {
-    ghost use Rattle.std.specs.Prelude.{◌≡◌};
-    ghost use Rattle.ro_machine.specs.declared.memory.InsertFault.TheVariants.{Memory};
-
-    ghost from_gives = { λ _ fault. fault ≡ Memory };
-
-    fn from(_: AllocFailed<T>) -> InsertFault {
-        InsertFault::Memory
-    }
 }
 
 impl From<AllocError> for InsertFault {
@@ -123,6 +112,18 @@ impl Memory {
                 Ok(())
             }
         }
+    }
+
+    /// Lists a cell that isn't listed yet, without a look-up for a word that differs. It costs what `insert` costs.
+    pub fn insert_new(&mut self, addr: Felt, word: Felt) -> Result<(), AllocError>
+        requires { map.get self.old addr ≡ None }
+        ensures ok { OnOk result (self.new ≡ map.insert self.old addr word) }
+        ensures err { OnErr result (self.new ≡ self.old) }
+    {
+        let at = place_of(&self.segments, addr);
+        add(&mut self.segments, at, addr, word)?;
+        self.count += 1;
+        Ok(())
     }
 
     /// The number of listed cells, in constant time. It takes no memory.
@@ -191,13 +192,12 @@ fn word_at(segments: &[Segment], at: usize, addr: Felt) -> Option<Felt>
 }
 
 /// Adds a cell that isn't listed to the segment that it lies behind, or else as a segment of its own.
-fn add(segments: &mut Vec<Segment>, at: usize, addr: Felt, word: Felt) -> Result<(), InsertFault>
+fn add(segments: &mut Vec<Segment>, at: usize, addr: Felt, word: Felt) -> Result<(), AllocError>
     requires apart { AreApart 0 segments.old.items }
     requires place { IsPlace segments.old.items addr at }
     requires unlisted { map.get (map_of segments.old.items) addr ≡ None }
     ensures ok { OnOk result (Adds segments.old.items addr word segments.new.items) }
     ensures err { OnErr result (segments.new.items ≡ segments.old.items) }
-    ensures fault { IfErr result (λ fault. fault ≡ InsertFault.Memory) }
 {
     // The number of a `Felt` is below P, so what is listed stays in the field.
     let _in_field = (addr.value(), word.value());
@@ -211,11 +211,10 @@ fn add(segments: &mut Vec<Segment>, at: usize, addr: Felt, word: Felt) -> Result
 
 /// Puts a segment in its place. Room grows by half, so a cell that lies apart from all others takes at most 60 bytes,
 /// less than four times the 16 that it has in a run file.
-fn open(segments: &mut Vec<Segment>, at: usize, segment: Segment) -> Result<(), InsertFault>
+fn open(segments: &mut Vec<Segment>, at: usize, segment: Segment) -> Result<(), AllocError>
     requires { at ≤ length segments.old.items }
     ensures ok { OnOk result (segments.new.items ≡ insert segments.old.items at segment) }
     ensures err { OnErr result (segments.new.items ≡ segments.old.items) }
-    ensures fault { IfErr result (λ fault. fault ≡ InsertFault.Memory) }
 {
     if segments.len() == segments.capacity() {
         segments.reserve_exact(segments.len() / 2 + 1)?;
@@ -245,6 +244,7 @@ mod tests {
     fn lists_each_cell_once(rt: HostRuntime) -> Result<(), Fail> {
         let mut memory = Memory::new(rt.alloc());
         assert_eq!(rt; memory.from(felt(0)), None);
+        memory.insert_new(felt(1 << 40), felt(TOP))?;
         for (addr, word, had) in [
             // two segments in turn, each from its first cell up
             (100, 1, None),
@@ -267,6 +267,7 @@ mod tests {
             (TOP, 11, None),
             (TOP, 12, Some(11)),
             (1 << 40, TOP, None),
+            (1 << 40, 12, Some(TOP)),
         ] {
             let result = match had {
                 None => Ok(()),

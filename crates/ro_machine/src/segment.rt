@@ -1,14 +1,13 @@
 //! A segment of memory: cells with consecutive addresses, each with its word.
 //! A memory keeps its cells as segments in order of address, and the walk over its cells reads them.
 
-ghost use Rattle.std.specs.Prelude.{◌≡◌, ◌+◌, ◌-◌, ◌<◌, ◌≤◌, ◌↔◌, ◌++◌, ◌∷◌, [], ℕ, IsTrue, OnOk, OnErr, IfErr, length, slice_index};
+ghost use Rattle.std.specs.Prelude.{◌≡◌, ◌+◌, ◌-◌, ◌<◌, ◌≤◌, ◌↔◌, ◌++◌, ◌∷◌, [], ℕ, IsTrue, OnOk, OnErr, length, slice_index};
 ghost use Rattle.felt64.specs.Field.{modulus};
 ghost use Rattle.std.specs.List.{slice_get};
 ghost use Rattle.ro_machine.specs.Stretches.{Stretch, words_of, end_of, with_next};
 
-use crate::memory::InsertFault;
 use felt64::Felt;
-use std::alloc::Global;
+use std::alloc::{AllocError, Global};
 use std::marker::Model;
 use std::mem::size_of;
 
@@ -96,10 +95,9 @@ impl Segment {
     }
 
     /// Adds a cell behind the last one.
-    pub fn push(&mut self, word: Felt) -> Result<(), InsertFault>
+    pub fn push(&mut self, word: Felt) -> Result<(), AllocError>
         ensures ok { OnOk result (self.new ≡ with_next self.old word) }
         ensures err { OnErr result (self.new ≡ self.old) }
-        ensures fault { IfErr result (λ fault. fault ≡ InsertFault.Memory) }
     {
         Ok(self.others.push(word)?)
     }

@@ -1,7 +1,6 @@
 -- Cells in order of address: as a list that rises, and as a map that a cell above all others is put into.
-use Rattle.std.proofs.Common.{◌≡◌, ℕ, ◌+◌, ◌<◌, ◌≤◌, Bool, true, false, ◌&&◌, T, List, [], ◌∷◌, ◌++◌, None, Result, Ok, Err, refl, sym, ◌∙◌, arith}
+use Rattle.std.proofs.Common.{◌≡◌, ℕ, ◌+◌, ◌<◌, ◌≤◌, Bool, true, false, ◌&&◌, T, List, [], ◌∷◌, ◌++◌, None, refl, sym, ◌∙◌, arith}
 use Rattle.std.specs.Ordering.{nat_cmp, is_lt}
-use Rattle.std.specs.Result.{OnOk}
 use Rattle.std.specs.Cmp.{nat_cmp_total}
 use Rattle.std.specs.FinMap.{find, put, from_sorted, entries-from_sorted, same_entries_map, is_sorted, entries, entries_sorted, insert, entries-insert, get, get-entries, get-insert, get-empty, empty, len-entries, len-empty}
 use Rattle.std.specs.FinMap.Entries.{below_all}
@@ -84,8 +83,3 @@ entries-empty = nil_from_length (entries (empty {X = ℕ} {R = nat_cmp})) (sym (
 
 pub same_cells : (m : Cells) → from_sorted (entries m) ≡ m
 same_cells m = same_entries_map _ m (entries-from_sorted nat_cmp (entries m) (entries_sorted m))
-
--- what follows from a value, where there is one
-pub on_ok : {T E P Q : Type 0} (r : Result T E) → (P → Q) → OnOk r P → OnOk r Q
-on_ok (Ok x) leads given = leads given
-on_ok (Err e) leads given = tt

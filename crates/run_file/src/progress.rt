@@ -3,8 +3,6 @@
 //! the run. The reader of run files hands the numbers on.
 
 ghost use Rattle.std.specs.Prelude.{◌≡◌, ◌≢◌, ◌⊎◌, ◌+◌, ◌<◌, ◌^◌, ◌++◌, ℕ, List, length, OnOk, IfOk, IfErr, IsTrue};
-ghost use Rattle.std.specs.FinMap as map;
-ghost use Rattle.ro_machine.specs.Cells.{NoneFrom};
 ghost use Rattle.run_file.specs.declared.run.Run.{Run};
 ghost use Rattle.run_file.specs.Reading.{run_of};
 ghost use Rattle.run_file.specs.Stages.{IsFinal, Allows, in_states, takes_memory};
@@ -14,7 +12,7 @@ use crate::refusal::FileRefusal;
 use crate::run::{Run, States};
 use crate::stage::{MAGIC, Part, Stage};
 use felt64::Felt;
-use ro_machine::{InsertFault, Memory, State};
+use ro_machine::{Memory, State};
 use std::alloc::Global;
 
 /// The parts of a run that are whole.
@@ -122,22 +120,9 @@ impl RunSoFar {
                 self.rc = rc;
                 Ok(())
             }
-            Part::Cell { address, word } => list(&mut self.memory, address, word),
+            Part::Cell { address, word } => Ok(self.memory.insert_new(address, word)?),
             Part::Steps(steps) => Ok(self.states.reserve_exact(steps as usize + 1)?),
             Part::State(state) => Ok(self.states.push(state)?),
         }
-    }
-}
-
-/// Lists a cell above all others.
-fn list(memory: &mut Memory, address: Felt, word: Felt) -> Result<(), FileRefusal>
-    requires { NoneFrom memory.old address }
-    ensures ok { OnOk result (memory.new ≡ map.insert memory.old address word) }
-    ensures err { IfErr result (λ e. e ≡ FileRefusal.Memory) }
-{
-    match memory.insert(address, word) {
-        Ok(()) => Ok(()),
-        Err(InsertFault::Memory) => Err(FileRefusal::Memory),
-        Err(InsertFault::Differs { .. }) => unreachable!(),
     }
 }
