@@ -17,7 +17,8 @@ use Rattle.text_reading.proofs.TokenFacts.{IsWide}
 use Rattle.text_reading.proofs.Exact.{IsExact, Then, Made, Or, exact_as, exact_then, exact_last, exact_done, exact_branch, exact_mark, exact_word, exact_number, exact_positive, mark_begins, word_begins, number_begins}
 use Rattle.casm_text.specs.declared.fault.NumberKind.TheVariants as kinds
 use Rattle.casm_text.specs.Text.{Limits, Register, Ending, Base, Offset, Imm, Cell, OperandText, ResText, InstrText}
-use Rattle.casm_text.specs.Reading.{negative, register_at, ending_at, offset_at, imm_at, inner_at, cell_rest_at, cell_at, operand_at, behind_cell_at, double_at, bracket_at, res_at, assert_at, jnz_at, jump_end_at, relative_end_at, jump_at, base_at, call_at, add_ap_at, ret_at, instr_at}
+use Rattle.casm_word.specs.Offset.{minus}
+use Rattle.casm_text.specs.Reading.{register_at, ending_at, offset_at, imm_at, inner_at, cell_rest_at, cell_at, operand_at, behind_cell_at, double_at, bracket_at, res_at, assert_at, jnz_at, jump_end_at, relative_end_at, jump_at, base_at, call_at, add_ap_at, ret_at, instr_at}
 
 -- the limits that a text may have: a first digit passes none
 pub record AreWide (limits : Limits) : Type 0 where
@@ -84,12 +85,12 @@ ending_begins false other text rest comma semicolon h = mark_begins 59 other [] 
 
 module _ (limits : Limits) (wide : AreWide limits) where
   abbrev NegativeOffset : ℤ → Form
-  NegativeOffset = Then (λ (unit : Unit {0}). Mark (codes "-")) (λ _. Made negative (λ n text rest. (n ≢ 0) × Number (option_map suc limits.offset) n text rest))
+  NegativeOffset = Then (λ (unit : Unit {0}). Mark (codes "-")) (λ _. Made minus (λ n text rest. (n ≢ 0) × Number (option_map suc limits.offset) n text rest))
 
   offset_there : (z : ℤ) (text rest : List ℕ) → Or 45 NegativeOffset (Made pos (Number limits.offset)) z text rest → Offset limits z text rest
   offset_there z text rest (inl w) = go w.3.0 w.3.1 w.3.2.0 w.3.2.1
     where
-      go : (n : ℕ) → negative n ≡ z → n ≢ 0 → Number (option_map suc limits.offset) n w.1 rest → Offset limits z text rest
+      go : (n : ℕ) → minus n ≡ z → n ≢ 0 → Number (option_map suc limits.offset) n w.1 rest → Offset limits z text rest
       go zero is some number = absurd (some refl)
       go (suc n) is some number = subst (λ o. Offset limits o text rest) is (w.1, w.2, number)
   offset_there z text rest (inr w) = subst (λ o. Offset limits o text rest) w.1.1 w.1.2
@@ -103,7 +104,7 @@ module _ (limits : Limits) (wide : AreWide limits) where
   offset_exact =
       exact_as
       (exact_branch 45
-      (exact_then (exact_mark (codes "-")) (λ _. exact_last negative (exact_positive (option_map suc limits.offset) kinds.Offset (wide_suc limits.offset wide.offset))))
+      (exact_then (exact_mark (codes "-")) (λ _. exact_last minus (exact_positive (option_map suc limits.offset) kinds.Offset (wide_suc limits.offset wide.offset))))
       (exact_last pos (exact_number limits.offset kinds.Offset wide.offset))
       (λ z text rest h. mark_begins 45 45 [] text h.1 h.2))
       offset_there offset_back

@@ -16,7 +16,8 @@ use Rattle.text_reading.proofs.Languages.{Limited, LimitedFrom, limited_then, fr
 use Rattle.casm_text.specs.declared.fault.NumberKind.{NumberKind}
 use Rattle.casm_text.specs.declared.fault.NumberKind.TheVariants as kinds
 use Rattle.casm_text.specs.Text.{Limits, without}
-use Rattle.casm_text.specs.Reading.{negative, register_at, ending_at, offset_at, imm_at, inner_at, cell_rest_at, cell_at, operand_at, behind_cell_at, double_at, bracket_at, res_at, assert_at, jnz_at, jump_end_at, relative_end_at, jump_at, base_at, call_at, add_ap_at, ret_at, instr_at}
+use Rattle.casm_word.specs.Offset.{minus}
+use Rattle.casm_text.specs.Reading.{register_at, ending_at, offset_at, imm_at, inner_at, cell_rest_at, cell_at, operand_at, behind_cell_at, double_at, bracket_at, res_at, assert_at, jnz_at, jump_end_at, relative_end_at, jump_at, base_at, call_at, add_ap_at, ret_at, instr_at}
 
 module _ (kind : NumberKind) where
   register : LimitedFrom 97 kind register_at register_at
@@ -68,7 +69,7 @@ module _ (kind : NumberKind) (limits : Limits) where
   unfolding offset_at
   offset =
       limited_branch 45 kind refl
-      (from_then kind 45 (from_mark kind 45 [] refl) (λ _. limited_then kind (negative_offset limits kind) (λ n. limited_done kind (negative n))))
+      (from_then kind 45 (from_mark kind 45 [] refl) (λ _. limited_then kind (negative_offset limits kind) (λ n. limited_done kind (minus n))))
       (limited_then kind (offset_number limits kind) (λ n. limited_done kind (pos n)))
 
   imm : Limited kind (imm_at limits) (imm_at (without kind limits))

@@ -1,6 +1,7 @@
 -- What assembling answers, by what reading the text gives.
 use Rattle.std.proofs.Common.{◌≡◌, ◌≢◌, ◌↔◌, ℕ, ◌-◌, List, [], length, take, Option, None, Some, Ok, Err, refl, sym, ◌∙◌, ap, subst, inl, inr, ◌⊎◌, arith}
-use Rattle.std.specs.Prelude.{IsTrue, true, false}
+use Rattle.std.specs.Prelude.{◌^◌, IsTrue, true, false}
+use Rattle.std.proofs.lemmas.Bool.{cases_lt}
 use Rattle.casm_word.specs.declared.instr.Instr.{Instr}
 use Rattle.text_reading.specs.declared.stop.Stop.{Stop}
 use Rattle.text_reading.specs.declared.stop.Stop.TheVariants as stops
@@ -177,3 +178,21 @@ one_refusal text a b h k = go (code_at standard text) refl
     go : (answer : Answer NumberKind (List Instr)) → code_at standard text ≡ answer → a ≡ b
     go (answers (Ok code) rest) read = sym (too_long a (long_refused text rest code read a h)) ∙ too_long b (long_refused text rest code read b k)
     go (answers (Err why) rest) read = sym (only_refused text rest why read a h) ∙ only_refused text rest why read b k
+
+-- each text is that of code that is short, or is refused
+pub code_or_refusal : (text : List ℕ) → ((code : List Instr) × Text standard code text × IsShort code) ⊎ ((fault : AsmFault) × Refused text fault)
+code_or_refusal text = go (code_at standard text) refl
+  where
+    by_length : (code : List Instr) → Text standard code text → ((code : List Instr) × Text standard code text × IsShort code) ⊎ ((fault : AsmFault) × Refused text fault)
+    by_length code has = elim (cases_lt (2 ^ 24) (word_count code)) [
+      | inl beyond ↦ inr (faults.TooLong, (code, has, beyond))
+      | inr within ↦ inl (code, has, omega arith)
+    ]
+
+    go : (answer : Answer NumberKind (List Instr)) → code_at standard text ≡ answer → ((code : List Instr) × Text standard code text × IsShort code) ⊎ ((fault : AsmFault) × Refused text fault)
+    go (answers (Ok code) rest) read = by_length code (read_code text rest code read)
+    go (answers (Err why) rest) read = inr (fault_of why (front text rest why read), stop_refused text rest why read)
+
+-- .. and not both
+pub never_both : (text : List ℕ) (code : List Instr) (fault : AsmFault) → Refused text fault → Text standard code text → IsShort code → ⊥
+never_both text code fault refused has short = short_not_refused text [] code (code_complete text code has) short fault refused

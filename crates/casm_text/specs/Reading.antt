@@ -1,5 +1,5 @@
 -- Reading CASM text, form by form, each by its next byte.
-use Rattle.std.specs.Prelude.{ℕ, zero, suc, ◌-◌, ℤ, pos, negsuc, List, Bool, true, false, option_map, codes}
+use Rattle.std.specs.Prelude.{ℕ, suc, ◌-◌, ℤ, pos, List, Bool, true, false, option_map, codes}
 use Rattle.felt64.specs.Field.{modulus}
 use Rattle.casm_word.specs.declared.instr.Reg.{Reg}
 use Rattle.casm_word.specs.declared.instr.Reg.TheVariants as regs
@@ -10,6 +10,7 @@ use Rattle.casm_word.specs.declared.instr.Res.{Res}
 use Rattle.casm_word.specs.declared.instr.Res.TheVariants as results
 use Rattle.casm_word.specs.declared.instr.Instr.{Instr}
 use Rattle.casm_word.specs.declared.instr.Instr.TheVariants as instrs
+use Rattle.casm_word.specs.Offset.{minus}
 use Rattle.text_reading.specs.Reading.{Reader, done, ◌>>=◌, branch}
 use Rattle.text_reading.specs.TokenReading.{mark_at, word_at, number_at, text_at}
 use Rattle.casm_text.specs.declared.fault.NumberKind.{NumberKind}
@@ -18,11 +19,6 @@ use Rattle.casm_text.specs.Text.{Limits}
 
 abbrev pub Casm : Type 0 → Type 0
 Casm = Reader NumberKind
-
--- the offset `-n`
-abbrev pub negative : ℕ → ℤ
-negative zero = pos 0
-negative (suc n) = negsuc n
 
 unfoldable pub register_at : Casm Reg
 register_at =
@@ -46,7 +42,7 @@ ret_at = word_at (codes "ret") >>= λ _. mark_at (codes ";") >>= λ _. done inst
 module _ (limits : Limits) where
   unfoldable pub offset_at : Casm ℤ
   offset_at = branch 45
-      (mark_at (codes "-") >>= λ _. number_at (option_map suc limits.offset) false kinds.Offset >>= λ n. done (negative n))
+      (mark_at (codes "-") >>= λ _. number_at (option_map suc limits.offset) false kinds.Offset >>= λ n. done (minus n))
       (number_at limits.offset true kinds.Offset >>= λ n. done (pos n))
 
   unfoldable pub imm_at : Casm ℕ

@@ -3,9 +3,10 @@
 
 ghost use Rattle.std.specs.Prelude.{◌≡◌, ◌+◌, ◌≤◌, ◌<◌, ◌^◌, IfOk};
 ghost use Rattle.felt64.specs.Field.{modulus};
+ghost use Rattle.casm_word.specs.Offset.{minus};
 ghost use Rattle.text_reading.specs.Given.{Gives};
 ghost use Rattle.casm_text.specs.Text.{standard};
-ghost use Rattle.casm_text.specs.Reading.{negative, register_at, ending_at, offset_at, imm_at, inner_at, cell_rest_at, cell_at, operand_at, behind_cell_at, double_at, bracket_at, res_at, assert_at, jnz_at, jump_end_at, relative_end_at, jump_at, base_at, call_at, add_ap_at, ret_at, instr_at};
+ghost use Rattle.casm_text.specs.Reading.{register_at, ending_at, offset_at, imm_at, inner_at, cell_rest_at, cell_at, operand_at, behind_cell_at, double_at, bracket_at, res_at, assert_at, jnz_at, jump_end_at, relative_end_at, jump_at, base_at, call_at, add_ap_at, ret_at, instr_at};
 
 use crate::fault::NumberKind;
 use casm_word::{CellRef, Instr, Operand, Reg, Res};
@@ -46,7 +47,7 @@ fn ending(rest: &mut &[u8]) -> Result<bool, Stop<NumberKind>>
 /// The offset `-n`.
 fn negative(n: u128) -> i16
     requires { n ≤ 2 ^ 15 }
-    ensures { result ≡ negative n }
+    ensures { result ≡ minus n }
 {
     (-(n as i32)) as i16
 }

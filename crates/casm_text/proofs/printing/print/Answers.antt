@@ -4,7 +4,7 @@ use Rattle.std.specs.String.{string_bytes}
 use Rattle.std.proofs.lemmas.List.{take_all}
 use Rattle.std.proofs.lemmas.List.Elements.{recursion_from_All}
 use Rattle.casm_word.specs.declared.instr.Instr.{Instr}
-use Rattle.casm_word.specs.Bounds.{IsInstrNear, IsInstrInField}
+use Rattle.casm_word.specs.Bounds.{IsInstrNear}
 use Rattle.casm_text.specs.Printing.{printed}
 use Rattle.casm_text.specs.Text.{Text, standard}
 use Rattle.casm_text.proofs.PrintedSoFar.{all_more, text_more}
