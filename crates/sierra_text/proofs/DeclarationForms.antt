@@ -1,16 +1,14 @@
 -- Declarations: their reader reads exactly the forms of the definition that may follow what was read before.
-use Rattle.std.proofs.Common.{◌≡◌, ◌≢◌, ℕ, ◌<◌, arith, length, List, [], ◌∷◌, ◌++◌, Bool, true, false, cond, ◌||◌, ◌&&◌, eqb, Option, None, Some, Result, Ok, Err, refl, sym, ◌∙◌, ap, subst, inl, inr, ◌⊎◌}
+use Rattle.std.proofs.Common.{◌≡◌, ℕ, List, [], ◌∷◌, Bool, true, false, cond, ◌||◌, refl, sym, ◌∙◌, ap, subst, inl, inr, ◌⊎◌}
 use Rattle.std.specs.Prelude.{codes}
 use Rattle.std.specs.Str.{bytes_eq}
 use Rattle.std.proofs.lemmas.Bool.{or_parts}
-use Rattle.std.proofs.lemmas.List.{length-append}
-use Rattle.text_reading.specs.Tokens.{Form, ◌then◌, NoneNext, Blanks, Mark, Number}
-use Rattle.text_reading.specs.Reading.{Answer, Answer.answers, Reader, done, ◌>>=◌, begins, branch}
+use Rattle.text_reading.specs.Tokens.{Form, ◌then◌, Blanks, Mark, Number}
+use Rattle.text_reading.specs.Reading.{done, ◌>>=◌, begins}
 use Rattle.text_reading.specs.TokenReading.{blanks_at, mark_at, number_at, token}
 use Rattle.text_reading.proofs.WholeTexts.{Moves}
-use Rattle.text_reading.proofs.Languages.{Reads, Limited, LimitedFrom, limited_then, from_then, limited_done, limited_number, limited_branch, from_mark, moves_then, moves_mark, moves_branch}
-use Rattle.text_reading.proofs.Exact.{IsExact, exact_as, exact_then, exact_last, exact_done, exact_branch, exact_mark, Begins, mark_begins}
-use Rattle.sierra_types.specs.declared.program.Arg.{Arg}
+use Rattle.text_reading.proofs.Languages.{Limited, LimitedFrom, limited_then, from_then, limited_done, limited_number, limited_branch, from_mark, moves_then, moves_mark, moves_branch}
+use Rattle.text_reading.proofs.Exact.{IsExact, exact_as, exact_then, exact_last, exact_branch, exact_mark, mark_begins}
 use Rattle.sierra_types.specs.declared.program.TypeDecl.{TypeDecl}
 use Rattle.sierra_types.specs.declared.program.LibfuncDecl.{LibfuncDecl}
 use Rattle.sierra_types.specs.declared.program.Statement.{Statement}
@@ -23,10 +21,10 @@ use Rattle.sierra_text.specs.declared.declaration.Head.{Head}
 use Rattle.sierra_text.specs.declared.declaration.Head.TheVariants as heads
 use Rattle.sierra_text.specs.declared.declaration.Declaration.{Declaration}
 use Rattle.sierra_text.specs.declared.declaration.Declaration.TheVariants as declarations
-use Rattle.sierra_text.specs.Ids.{is_reserved, Label, makes_label, Reserved}
-use Rattle.sierra_text.specs.Text.{Limits, unlimited, numbered, InParentheses, AnyWord, LabelId, NumberedId, Id, Args, InfoOrNothing, Declared, TypeText, LibfuncText, Var, Branches, StatementText, Param, FunctionText}
+use Rattle.sierra_text.specs.Ids.{is_reserved, Reserved}
+use Rattle.sierra_text.specs.Text.{Limits, unlimited, numbered, InParentheses, NumberedId, Id, InfoOrNothing, Declared, TypeText, LibfuncText, Var, Branches, StatementText, Param, FunctionText}
 use Rattle.sierra_text.specs.LabelReading.{Sierra, too_wide, may_begin, label_at}
-use Rattle.sierra_text.specs.Reading.{numbered_at, id_at, type_at, libfunc_at, invoke_at, return_at, function_at, in_parentheses_at, param_at, vars_at}
+use Rattle.sierra_text.specs.Reading.{numbered_at, id_at, type_at, libfunc_at, invoke_at, return_at, function_at, param_at}
 use Rattle.sierra_text.specs.ProgramReading.{head_of, has_statements, head_at, function_declared_at, statement_declared_at, behind_head_at, declaration_at}
 use Rattle.sierra_text.proofs.LabelForms.{AnyLabel, reserved_cases}
 use Rattle.sierra_text.proofs.Tokens.{exact_label_token, exact_any_word, limited_label, limited_blanks, label_moves}

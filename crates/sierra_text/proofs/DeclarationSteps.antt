@@ -1,9 +1,9 @@
 -- Declarations as the code reads them, one after another.
-use Rattle.std.proofs.Common.{◌≡◌, ℕ, zero, List, [], ◌∷◌, length, ◌<◌, Bool, true, false, cond, Option, None, Some, Result, Ok, Err, refl, sym, ◌∙◌, ap, arith}
+use Rattle.std.proofs.Common.{◌≡◌, ℕ, List, [], ◌∷◌, length, ◌<◌, false, cond, Option, Ok, Err, refl, ◌∙◌, ap, arith}
 use Rattle.text_reading.specs.Reading.{Answer.answers, done, go_on, ◌>>=◌}
 use Rattle.text_reading.specs.Repeating.{is_end, finish_at}
 use Rattle.text_reading.proofs.WholeTexts.{Moves}
-use Rattle.text_reading.proofs.Repeats.{chosen, repeat_step}
+use Rattle.text_reading.proofs.Repeats.{repeat_step}
 use Rattle.sierra_types.specs.declared.program.Program.{Program}
 use Rattle.sierra_text.specs.declared.part.Part.{Part}
 use Rattle.sierra_text.specs.declared.declaration.Declaration.{Declaration}

@@ -1,39 +1,33 @@
 -- The readers of Sierra text read exactly the forms of its definition.
-use Rattle.std.proofs.Common.{◌≡◌, ◌≢◌, ℕ, List, [], ◌∷◌, ◌++◌, Bool, true, false, cond, ◌&&◌, ◌||◌, ◌<◌, ◌-◌, leb, arith, eqb, Option, None, Some, Result, Ok, Err, refl, sym, ◌∙◌, ap, subst, append_assoc, inl, inr, ◌⊎◌}
+use Rattle.std.proofs.Common.{◌≡◌, ◌≢◌, ℕ, List, [], ◌∷◌, ◌++◌, Bool, true, false, cond, ◌&&◌, ◌<◌, ◌-◌, leb, arith, eqb, Option, None, Some, Ok, refl, sym, ◌∙◌, ap, subst, append_assoc, inl, inr, ◌⊎◌}
 use Rattle.std.specs.Prelude.{codes}
 use Rattle.std.specs.Str.{bytes_eq}
-use Rattle.std.proofs.lemmas.Bool.{eq-eqb, eqb-true, ne_eqb, leb-true}
-use Rattle.text_reading.specs.Tokens.{Form, ◌then◌, is_digit, is_word_byte, NoneNext, Blanks, Mark, Word, Number}
-use Rattle.text_reading.specs.Reading.{Answer, Answer.answers, Reader, done, ◌>>=◌, begins, branch, scan, scan_from}
-use Rattle.text_reading.specs.TokenReading.{blanks_at, mark_at, word_at, next_number, number_end, number_at, digits_at, token}
-use Rattle.text_reading.specs.Repeating.{begins_with, choice}
+use Rattle.std.proofs.lemmas.Bool.{eqb-true, ne_eqb, leb-true}
+use Rattle.text_reading.specs.Tokens.{Form, ◌then◌, is_digit, Blanks, Mark, Word, Number}
+use Rattle.text_reading.specs.Reading.{Answer.answers, done, begins, scan, scan_from}
+use Rattle.text_reading.specs.TokenReading.{next_number, number_end, digits_at, token}
+use Rattle.text_reading.specs.Repeating.{begins_with}
 use Rattle.text_reading.proofs.TokenFacts.{IsWide}
 use Rattle.text_reading.proofs.NumberFacts.{digits_complete, digit_bounds}
-use Rattle.text_reading.proofs.WholeTexts.{Moves}
 use Rattle.text_reading.proofs.Exact.{IsExact, exact_as, exact_then, exact_last, exact_done, exact_branch, exact_mark, exact_word, exact_number, exact_positive, Begins, mark_begins, word_begins, number_begins}
 use Rattle.text_reading.proofs.Repeats.{exact_choice}
 use Rattle.sierra_types.specs.declared.program.Arg.{Arg}
 use Rattle.sierra_types.specs.declared.program.Arg.TheVariants as args
 use Rattle.sierra_types.specs.declared.program.Info.{Info}
-use Rattle.sierra_types.specs.declared.program.TypeDecl.{TypeDecl}
-use Rattle.sierra_types.specs.declared.program.LibfuncDecl.{LibfuncDecl}
-use Rattle.sierra_types.specs.declared.program.Statement.{Statement}
-use Rattle.sierra_types.specs.declared.program.Statement.TheVariants as statements
 use Rattle.sierra_types.specs.declared.program.Branch.{Branch}
 use Rattle.sierra_types.specs.declared.program.Target.{Target}
 use Rattle.sierra_types.specs.declared.program.Target.TheVariants as targets
-use Rattle.sierra_types.specs.declared.program.Function.{Function}
 use Rattle.sierra_text.specs.declared.part.Part.TheVariants as parts
-use Rattle.sierra_text.specs.Ids.{is_word_start, is_reserved, IsWord, Label, makes_label, Reserved, Tails.no_more}
-use Rattle.sierra_text.specs.Text.{Limits, unlimited, numbered, Without, BehindItem, OneOrMore, InParentheses, AnyWord, BoolText, BeginsNot, LabelId, NumberedId, Id, Negative, ArgText, Args, Ability, InfoText, InfoOrNothing, Declared, Var, TargetText, BranchText, Arrow, Branches, Param}
-use Rattle.sierra_text.specs.LabelReading.{Sierra, too_wide, label_at, any_word_at}
-use Rattle.sierra_text.specs.Reading.{one_more_at, one_or_more_at, comma_at, in_parentheses_at, bool_at, numbered_at, id_at, negative_at, size_at, plain_at, marked_at, behind_label_at, labelled_at, arg_at, args_at, ability_at, info_at, info_or_nothing_at, type_at, libfunc_at, position_at, var_at, vars_at, target_at, branch_at, branches_at, invoke_at, return_at, param_at, function_at}
+use Rattle.sierra_text.specs.Ids.{is_word_start, is_reserved, IsWord, Label, Tails.no_more}
+use Rattle.sierra_text.specs.Text.{Limits, unlimited, numbered, Without, OneOrMore, InParentheses, BoolText, BeginsNot, LabelId, NumberedId, Id, ArgText, Args, Ability, InfoText, InfoOrNothing, Var, TargetText, BranchText, Branches, Param}
+use Rattle.sierra_text.specs.LabelReading.{Sierra, too_wide, label_at}
+use Rattle.sierra_text.specs.Reading.{comma_at, bool_at, numbered_at, id_at, negative_at, size_at, marked_at, behind_label_at, labelled_at, arg_at, args_at, ability_at, info_at, info_or_nothing_at, position_at, var_at, vars_at, target_at, branch_at, branches_at, param_at}
 use Rattle.sierra_text.proofs.LabelFacts.{label_answer}
 use Rattle.sierra_text.proofs.LabelForms.{AnyLabel, same_bytes}
 use Rattle.sierra_text.proofs.LabelSound.{label_exact}
-use Rattle.sierra_text.proofs.Tokens.{exact_token, exact_blanks, exact_label_token, exact_any_word}
+use Rattle.sierra_text.proofs.Tokens.{exact_blanks, exact_label_token}
 use Rattle.sierra_text.proofs.LimitedLists.{comma_more_moves}
-use Rattle.sierra_text.proofs.LimitedForms.{id_limited, arg_limited, var_limited, param_limited, more_branches_move}
+use Rattle.sierra_text.proofs.LimitedForms.{arg_limited, var_limited, more_branches_move}
 use Rattle.sierra_text.proofs.ExactLists.{one_or_more_exact, comma_exact, comma_begins, in_parentheses_exact}
 
 -- the limits that a text may have: a first digit passes none

@@ -1,11 +1,10 @@
 -- Lists in Sierra text are read exactly.
-use Rattle.std.proofs.Common.{◌≡◌, ℕ, List, [], ◌∷◌, ◌++◌, Bool, true, false, cond, eqb, Option, None, Some, Result, Ok, Err, refl, sym, ◌∙◌, ap, subst, append_assoc, inl, inr, ◌⊎◌}
+use Rattle.std.proofs.Common.{◌≡◌, ℕ, List, [], ◌∷◌, ◌++◌, false, eqb, refl, sym, ◌∙◌, ap, subst, append_assoc, inl, inr, ◌⊎◌}
 use Rattle.std.specs.Prelude.{codes}
 use Rattle.std.proofs.lemmas.Bool.{eq-eqb}
 use Rattle.std.proofs.lemmas.List.{append-nil}
-use Rattle.text_reading.specs.Tokens.{Form, ◌then◌, Mark}
-use Rattle.text_reading.specs.Reading.{Answer, Answer.answers, Reader, done, ◌>>=◌, begins, branch}
-use Rattle.text_reading.specs.TokenReading.{mark_at}
+use Rattle.text_reading.specs.Tokens.{Form, Mark}
+use Rattle.text_reading.specs.Reading.{begins}
 use Rattle.text_reading.proofs.WholeTexts.{Moves}
 use Rattle.text_reading.proofs.Exact.{IsExact, exact_as, exact_then, exact_last, exact_branch, exact_mark, mark_begins, Begins}
 use Rattle.text_reading.proofs.Repeats.{Turns, Turns.ended, Turns.turned, repeat_exact}

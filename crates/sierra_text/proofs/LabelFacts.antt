@@ -1,19 +1,18 @@
 -- Labels: their reader reads the labels of the definition, and where it stops every label stops.
-use Rattle.std.proofs.Common.{◌≡◌, ◌≢◌, ℕ, zero, suc, List, [], ◌∷◌, ◌++◌, length, Bool, true, false, cond, not, ◌||◌, ◌&&◌, eqb, Option, None, Some, Result, Ok, Err, refl, sym, ◌∙◌, ap, subst, append_assoc, inl, inr, ◌⊎◌}
-use Rattle.std.specs.Prelude.{option_map, codes}
+use Rattle.std.proofs.Common.{◌≡◌, ℕ, zero, suc, List, [], ◌∷◌, ◌++◌, Bool, true, false, cond, not, ◌||◌, ◌&&◌, eqb, Option, None, Some, Result, Ok, Err, refl, sym, ◌∙◌, ap, subst, append_assoc}
+use Rattle.std.specs.Prelude.{option_map}
 use Rattle.std.specs.List.{list_all}
-use Rattle.std.specs.Str.{bytes_eq}
-use Rattle.std.proofs.lemmas.Bool.{or_parts, and_parts, and_from, eqb-true}
+use Rattle.std.proofs.lemmas.Bool.{or_parts, and_parts}
 use Rattle.std.proofs.lemmas.List.{append-nil}
-use Rattle.text_reading.specs.Tokens.{is_word_byte, NoneNext, WholeWord}
-use Rattle.text_reading.specs.Reading.{first, Answer, Answer.answers, Reader, scan, scan_from}
-use Rattle.text_reading.proofs.Readers.{not_longer, Ends, IsReader, scan_is, scan_takes, cancel}
+use Rattle.text_reading.specs.Tokens.{is_word_byte, NoneNext}
+use Rattle.text_reading.specs.Reading.{Answer, Answer.answers, scan, scan_from}
+use Rattle.text_reading.proofs.Readers.{Ends, IsReader, scan_is, cancel}
 use Rattle.sierra_text.specs.declared.part.Part.{Part}
 use Rattle.sierra_text.specs.declared.labels.LabelSpot.{LabelSpot}
 use Rattle.sierra_text.specs.declared.labels.LabelSpot.TheVariants as spots
-use Rattle.sierra_text.specs.Ids.{is_word_start, IsWord, WordText, is_reserved, is_group_byte, is_bracket_byte, Grouped, Bracketed, Tails, is_label_byte, Label, makes_label, Reserved}
+use Rattle.sierra_text.specs.Ids.{IsWord, WordText, is_reserved, Grouped, Bracketed, Tails, is_label_byte}
 use Rattle.sierra_text.specs.Ids.{Grouped.nothing, Grouped.character as group_character, Grouped.group as inner_group, Bracketed.last, Bracketed.character as bracket_character, Tails.no_more, Tails.path, Tails.path_group, Tails.group, Tails.bracket}
-use Rattle.sierra_text.specs.LabelReading.{Sierra, may_begin, tail_spot, behind_group, next_spot, LabelState, at_start, next_label, ends_tail, end_at, label_end, label_at}
+use Rattle.sierra_text.specs.LabelReading.{Sierra, may_begin, next_spot, LabelState, at_start, next_label, end_at, label_end, label_at}
 
 abbrev pub state_at : List ℕ → LabelSpot → LabelState
 state_at so_far spot = record { so_far = so_far; spot = spot }

@@ -1,23 +1,20 @@
 -- Labels are read exactly: what is read is a label of the definition, and each label is read.
-use Rattle.std.proofs.Common.{◌≡◌, ◌≢◌, ℕ, zero, suc, List, [], ◌∷◌, ◌++◌, Bool, true, false, cond, not, ◌||◌, ◌&&◌, eqb, Option, None, Some, Result, Ok, Err, refl, sym, ◌∙◌, ap, subst, append_assoc, inl, inr, ◌⊎◌}
-use Rattle.std.specs.Prelude.{option_map, codes}
+use Rattle.std.proofs.Common.{◌≡◌, ℕ, List, [], ◌∷◌, ◌++◌, Bool, true, false, cond, not, ◌||◌, ◌&&◌, eqb, None, Some, Ok, Err, refl, sym, ◌∙◌, ap, subst, append_assoc, inl, inr, ◌⊎◌}
+use Rattle.std.specs.Prelude.{codes}
 use Rattle.std.specs.List.{list_all}
 use Rattle.std.specs.Str.{bytes_eq}
-use Rattle.std.proofs.lemmas.Bool.{or_parts, and_parts, and_from, and_right, eqb-true}
+use Rattle.std.proofs.lemmas.Bool.{or_parts, and_parts, and_right}
 use Rattle.std.proofs.lemmas.Slice.Eq.{bytes_eq-Decides}
 use Rattle.std.proofs.lemmas.List.{append-nil}
-use Rattle.text_reading.specs.Tokens.{Form, is_word_byte, NoneNext, WholeWord}
-use Rattle.text_reading.specs.Reading.{Answer, Answer.answers, scan_from}
-use Rattle.text_reading.proofs.Readers.{cancel, not_longer}
-use Rattle.text_reading.proofs.Exact.{IsExact}
+use Rattle.text_reading.specs.Tokens.{Form, is_word_byte, NoneNext}
+use Rattle.text_reading.specs.Reading.{Answer.answers}
+use Rattle.text_reading.proofs.Readers.{cancel}
 use Rattle.sierra_text.specs.declared.part.Part.{Part}
-use Rattle.sierra_text.specs.declared.part.Part.TheVariants as parts
-use Rattle.sierra_text.specs.declared.labels.LabelSpot.{LabelSpot}
 use Rattle.sierra_text.specs.declared.labels.LabelSpot.TheVariants as spots
-use Rattle.sierra_text.specs.Ids.{is_word_start, IsWord, WordText, is_reserved, is_group_byte, is_bracket_byte, Grouped, Bracketed, Tails, is_label_byte, Label, makes_label, Reserved}
-use Rattle.sierra_text.specs.Ids.{Grouped.nothing, Grouped.character as group_character, Grouped.group as inner_group, Bracketed.last, Bracketed.character as bracket_character, Tails.no_more, Tails.path, Tails.path_group, Tails.group, Tails.bracket}
-use Rattle.sierra_text.specs.LabelReading.{may_begin, tail_spot, behind_group, next_spot, at_start, next_label, end_at, label_end, label_at}
-use Rattle.sierra_text.proofs.LabelFacts.{state_at, label_answer, ends_label, IsNoLabelByte, no_label_byte, label_from, step, stops, taken_from, ReadsFrom, goes, group_reads, bracket_reads, path_word_reads, tails_read}
+use Rattle.sierra_text.specs.Ids.{IsWord, is_reserved, Tails, Label, makes_label, Reserved}
+use Rattle.sierra_text.specs.Ids.{Tails.no_more, Tails.path, Tails.path_group, Tails.group, Tails.bracket}
+use Rattle.sierra_text.specs.LabelReading.{may_begin, next_spot, at_start, label_at}
+use Rattle.sierra_text.proofs.LabelFacts.{state_at, label_answer, ends_label, no_label_byte, label_from, step, stops, taken_from, goes, group_reads, bracket_reads, path_word_reads, tails_read}
 
 -- a label that is no reserved word, or a reserved word that may begin a declaration
 abbrev pub AnyLabel : Part → List ℕ → Form

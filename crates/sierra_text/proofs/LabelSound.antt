@@ -1,21 +1,20 @@
 -- What is read as a label is one.
-use Rattle.std.proofs.Common.{◌≡◌, ◌≢◌, ℕ, zero, suc, List, [], ◌∷◌, ◌++◌, Bool, true, false, cond, not, ◌||◌, ◌&&◌, eqb, Option, None, Some, Result, Ok, Err, refl, sym, ◌∙◌, ap, subst, append_assoc, inl, inr, ◌⊎◌}
-use Rattle.std.specs.Prelude.{option_map, codes}
+use Rattle.std.proofs.Common.{◌≡◌, ℕ, zero, suc, List, [], ◌∷◌, ◌++◌, Bool, true, false, cond, not, ◌&&◌, eqb, Option, None, Some, Ok, Err, refl, sym, ◌∙◌, ap, subst, append_assoc, inl, inr, ◌⊎◌}
+use Rattle.std.specs.Prelude.{option_map}
 use Rattle.std.specs.List.{list_all}
-use Rattle.std.proofs.lemmas.Bool.{or_parts, and_parts, and_from, and_right, eqb-true}
+use Rattle.std.proofs.lemmas.Bool.{and_parts, and_from, eqb-true}
 use Rattle.std.proofs.lemmas.List.{append-nil}
-use Rattle.text_reading.specs.Tokens.{Form, is_word_byte, NoneNext, WholeWord}
-use Rattle.text_reading.specs.Reading.{first, Answer, Answer.answers, scan_from}
-use Rattle.text_reading.proofs.Readers.{cancel, not_longer}
+use Rattle.text_reading.specs.Tokens.{is_word_byte, NoneNext}
+use Rattle.text_reading.specs.Reading.{first, Answer.answers, scan_from}
 use Rattle.text_reading.proofs.Exact.{IsExact}
 use Rattle.sierra_text.specs.declared.part.Part.{Part}
 use Rattle.sierra_text.specs.declared.labels.LabelSpot.{LabelSpot}
 use Rattle.sierra_text.specs.declared.labels.LabelSpot.TheVariants as spots
-use Rattle.sierra_text.specs.Ids.{is_word_start, IsWord, WordText, is_reserved, is_group_byte, is_bracket_byte, Grouped, Bracketed, Tails, is_label_byte, Label, makes_label, Reserved}
+use Rattle.sierra_text.specs.Ids.{is_word_start, WordText, is_reserved, is_group_byte, is_bracket_byte, Grouped, Bracketed, Tails, is_label_byte, makes_label}
 use Rattle.sierra_text.specs.Ids.{Grouped.nothing, Grouped.character as group_character, Grouped.group as inner_group, Bracketed.last, Bracketed.character as bracket_character, Tails.no_more, Tails.path, Tails.path_group, Tails.group, Tails.bracket}
-use Rattle.sierra_text.specs.LabelReading.{may_begin, tail_spot, behind_group, next_spot, LabelState, at_start, next_label, end_at, label_end, label_at}
+use Rattle.sierra_text.specs.LabelReading.{may_begin, tail_spot, behind_group, next_spot, LabelState, next_label, end_at, label_end, label_at}
 use Rattle.sierra_text.proofs.LabelFacts.{state_at, label_answer, ends_label, label_from, step, stops, taken_from}
-use Rattle.sierra_text.proofs.LabelForms.{AnyLabel, no_reserved, tails_begin, label_complete}
+use Rattle.sierra_text.proofs.LabelForms.{AnyLabel, no_reserved, label_complete}
 
 -- groups that are still open, each with what stands in it, and the tails behind them
 abbrev Closing : ℕ → List ℕ → List ℕ → Type 0

@@ -12,3 +12,7 @@ pub mod ListSteps
 pub mod StandardLists
 pub mod Refusing
 pub mod DeclarationSteps
+pub mod Appending
+pub mod MovedLabels
+pub mod PrintedLists
+pub mod PrintedTexts

@@ -1,33 +1,31 @@
 -- The forms of Sierra text as readers: what each takes can be ended, and without the limits of numbers it reads the
 -- same, but where a number passes its limit.
-use Rattle.std.proofs.Common.{◌≡◌, ◌≢◌, ℕ, List, [], ◌∷◌, ◌++◌, Bool, true, false, cond, eqb, Option, None, Some, Result, Ok, Err, refl, sym, ◌∙◌, ap, subst, inl, inr, ◌⊎◌}
+use Rattle.std.proofs.Common.{◌≡◌, ℕ, List, [], ◌∷◌, ◌++◌, Bool, true, false, cond, None, Some, Ok, refl}
 use Rattle.std.specs.Prelude.{codes}
 use Rattle.std.specs.Str.{bytes_eq}
 use Rattle.text_reading.specs.Tokens.{is_digit}
-use Rattle.text_reading.specs.Reading.{Answer, Answer.answers, Reader, done, ◌>>=◌, begins, branch}
-use Rattle.text_reading.specs.TokenReading.{blanks_at, mark_at, word_at, number_at, digits_at, token}
-use Rattle.text_reading.specs.Repeating.{begins_with, choice}
-use Rattle.text_reading.proofs.Readers.{Opens, Starts, IsReader, then_next, bind_is, bind_starts, bind_opens, done_is, done_starts, branch_is}
-use Rattle.text_reading.proofs.Limits.{Lifts, bind_lifts}
+use Rattle.text_reading.specs.Reading.{Answer.answers, done, ◌>>=◌}
+use Rattle.text_reading.specs.TokenReading.{mark_at, number_at, digits_at}
+use Rattle.text_reading.specs.Repeating.{begins_with}
+use Rattle.text_reading.proofs.Readers.{Starts, then_next, bind_is, bind_starts}
+use Rattle.text_reading.proofs.Limits.{bind_lifts}
 use Rattle.text_reading.proofs.BlankFacts.{Fresh, is_gap, blanks_line, token_reads}
 use Rattle.text_reading.proofs.TokenFacts.{one_reads}
 use Rattle.text_reading.proofs.WholeTexts.{Moves}
-use Rattle.text_reading.proofs.Languages.{Reads, Limited, LimitedFrom, limited_then, from_then, limited_done, limited_branch, from_mark, from_word, limited_number, moves_then, moves_branch, moves_mark, moves_word}
-use Rattle.text_reading.proofs.Repeats.{OpensBy, begins_with-looks, limited_choice, moves_choice}
+use Rattle.text_reading.proofs.Languages.{Reads, Limited, LimitedFrom, limited_then, from_then, limited_done, limited_branch, from_mark, from_word, limited_number, moves_then}
+use Rattle.text_reading.proofs.Repeats.{OpensBy, begins_with-looks, limited_choice}
 use Rattle.sierra_types.specs.declared.program.Arg.{Arg}
 use Rattle.sierra_types.specs.declared.program.Arg.TheVariants as args
-use Rattle.sierra_types.specs.declared.program.Info.{Info}
 use Rattle.sierra_types.specs.declared.program.Statement.TheVariants as statements
 use Rattle.sierra_types.specs.declared.program.Branch.{Branch}
 use Rattle.sierra_types.specs.declared.program.Target.TheVariants as targets
-use Rattle.sierra_text.specs.declared.part.Part.{Part}
 use Rattle.sierra_text.specs.declared.part.Part.TheVariants as parts
 use Rattle.sierra_text.specs.Text.{Limits, unlimited, numbered}
-use Rattle.sierra_text.specs.LabelReading.{Sierra, too_wide, label_at, any_word_at}
-use Rattle.sierra_text.specs.Reading.{close_at, one_more_at, behind_items_at, one_or_more_at, any_number_at, comma_at, in_parentheses_at, bool_at, numbered_at, id_at, negative_at, size_at, plain_at, marked_at, behind_label_at, labelled_at, arg_at, args_at, ability_at, info_at, info_or_nothing_at, type_at, libfunc_at, position_at, var_at, vars_at, target_at, branch_at, branches_at, invoke_at, return_at, param_at, function_at}
+use Rattle.sierra_text.specs.LabelReading.{Sierra, too_wide, label_at}
+use Rattle.sierra_text.specs.Reading.{one_more_at, comma_at, bool_at, numbered_at, id_at, negative_at, size_at, plain_at, marked_at, behind_label_at, labelled_at, arg_at, args_at, ability_at, info_at, info_or_nothing_at, type_at, libfunc_at, position_at, var_at, vars_at, target_at, branch_at, branches_at, invoke_at, return_at, param_at, function_at}
 use Rattle.sierra_text.proofs.LabelFacts.{ends_label, label_is}
-use Rattle.sierra_text.proofs.Tokens.{limited_token, limited_blanks, label_starts, label_lifts, limited_label, limited_any_word}
-use Rattle.sierra_text.proofs.LimitedLists.{in_parentheses_moves, moves_behind, comma_limited, behind_items_limited, one_or_more_limited, comma_more_moves, comma_bare_moves, in_parentheses_limited}
+use Rattle.sierra_text.proofs.Tokens.{limited_blanks, label_starts, label_lifts, limited_label, limited_any_word}
+use Rattle.sierra_text.proofs.LimitedLists.{in_parentheses_moves, moves_behind, comma_limited, one_or_more_limited, comma_more_moves, comma_bare_moves, in_parentheses_limited}
 
 pub bool_limited : Limited too_wide bool_at bool_at
 unfolding bool_at

@@ -1,11 +1,10 @@
 -- Lists in Sierra text as readers, with the limits of numbers and without.
-use Rattle.std.proofs.Common.{◌≡◌, ℕ, ◌<◌, arith, length, List, [], ◌∷◌, ◌++◌, Bool, true, false, cond, eqb, Option, None, Some, Result, Ok, Err, refl, sym, ◌∙◌, ap, subst, inl, inr, ◌⊎◌}
-use Rattle.std.specs.Prelude.{codes}
+use Rattle.std.proofs.Common.{◌≡◌, ℕ, arith, length, List, [], ◌∷◌, ◌++◌, true, false, Ok, refl, ◌∙◌, ap}
 use Rattle.std.proofs.lemmas.Bool.{eq-eqb}
 use Rattle.std.proofs.lemmas.List.{length-append}
-use Rattle.text_reading.specs.Reading.{Answer, Answer.answers, Reader, done, ◌>>=◌, begins, branch}
+use Rattle.text_reading.specs.Reading.{Answer.answers, done, ◌>>=◌, begins}
 use Rattle.text_reading.specs.TokenReading.{mark_at}
-use Rattle.text_reading.proofs.Readers.{Opens, Starts, IsReader, bind_opens, done_starts, bind_read}
+use Rattle.text_reading.proofs.Readers.{Opens, bind_opens, done_starts, bind_read}
 use Rattle.text_reading.proofs.BlankFacts.{Fresh, is_gap}
 use Rattle.text_reading.proofs.TokenFacts.{mark_opens, mark_sound}
 use Rattle.text_reading.proofs.WholeTexts.{Moves}

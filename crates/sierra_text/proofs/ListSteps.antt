@@ -1,9 +1,8 @@
 -- Lists as the code reads them, one item after another.
-use Rattle.std.proofs.Common.{◌≡◌, ℕ, List, [], ◌∷◌, ◌++◌, length, ◌<◌, Bool, true, false, cond, Option, None, Some, Result, Ok, Err, refl, sym, ◌∙◌, ap}
-use Rattle.text_reading.specs.Reading.{Answer, Answer.answers, Reader, done, go_on, ◌>>=◌, begins}
+use Rattle.std.proofs.Common.{◌≡◌, ℕ, List, [], ◌∷◌, ◌++◌, length, ◌<◌, true, false, Option, Ok, Err, refl, ◌∙◌, ap}
+use Rattle.text_reading.specs.Reading.{Answer, Answer.answers, done, go_on, ◌>>=◌, begins}
 use Rattle.text_reading.specs.TokenReading.{mark_at}
-use Rattle.text_reading.specs.Repeating.{choice, repeat_at}
-use Rattle.text_reading.proofs.Readers.{bind_read, then_next, then_stops}
+use Rattle.text_reading.specs.Repeating.{choice}
 use Rattle.text_reading.proofs.WholeTexts.{Moves}
 use Rattle.text_reading.proofs.Repeats.{chosen, repeat_step}
 use Rattle.sierra_text.specs.LabelReading.{Sierra}

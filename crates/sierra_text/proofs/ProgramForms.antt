@@ -1,17 +1,17 @@
 -- Programs: what is read is the program of the text, and where reading stops is the place.
-use Rattle.std.proofs.Common.{◌≡◌, ◌≢◌, ◌↔◌, ℕ, ◌<◌, ◌≤◌, arith, length, List, [], ◌∷◌, ◌++◌, Bool, true, false, cond, eqb, Option, None, Some, Result, Ok, Err, refl, sym, ◌∙◌, ap, subst, append_assoc, inl, inr, ◌⊎◌, lit≤}
+use Rattle.std.proofs.Common.{◌≡◌, ℕ, ◌<◌, arith, length, List, [], ◌∷◌, ◌++◌, true, false, Ok, refl, sym, ◌∙◌, ap, subst, append_assoc, lit≤}
 use Rattle.std.proofs.lemmas.List.{append-nil}
-use Rattle.text_reading.specs.Tokens.{Form, ◌then◌, Blanks}
-use Rattle.text_reading.specs.Reading.{Answer, Answer.answers, Reader, done, ◌>>=◌}
+use Rattle.text_reading.specs.Tokens.{Form, ◌then◌}
+use Rattle.text_reading.specs.Reading.{Answer.answers, done}
 use Rattle.text_reading.specs.TokenReading.{blanks_at}
-use Rattle.text_reading.specs.Repeating.{is_end, finish_at, repeat_at}
+use Rattle.text_reading.specs.Repeating.{is_end, finish_at}
 use Rattle.text_reading.proofs.Readers.{Starts, IsReader, bind_is, bind_read, then_next}
-use Rattle.text_reading.proofs.Limits.{Passes, Lifts, bind_lifts}
+use Rattle.text_reading.proofs.Limits.{Lifts, bind_lifts}
 use Rattle.text_reading.proofs.BlankFacts.{Fresh, blanks_is, blanks_sound, blanks_complete}
-use Rattle.text_reading.proofs.TokenFacts.{IsWide, blanks_lift}
+use Rattle.text_reading.proofs.TokenFacts.{blanks_lift}
 use Rattle.text_reading.proofs.WholeTexts.{AtEnd, Moves}
-use Rattle.text_reading.proofs.Languages.{Reads, Limited, limited_then, limited_done, moves_then}
-use Rattle.text_reading.proofs.Exact.{IsExact, exact_as, exact_then, exact_last, Begins}
+use Rattle.text_reading.proofs.Languages.{Limited, limited_then, limited_done, moves_then}
+use Rattle.text_reading.proofs.Exact.{IsExact, exact_last, Begins}
 use Rattle.text_reading.proofs.Repeats.{OpensBy, is_end-looks, Turns, Turns.ended, Turns.turned, repeat_exact, repeat_is, repeat_starts, repeat_lifts}
 use Rattle.text_reading.proofs.WholeReaders.{finish_is, finish_lifts, finish_test, IsWhole}
 use Rattle.sierra_types.specs.declared.program.Program.{Program}

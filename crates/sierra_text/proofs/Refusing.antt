@@ -1,11 +1,9 @@
 -- What reading answers, by what the reader on lists gives.
-use Rattle.std.proofs.Common.{◌≡◌, ◌≢◌, ◌↔◌, ℕ, ◌-◌, ◌<◌, ◌≤◌, ◌^◌, List, [], ◌++◌, length, take, Option, None, Some, Result, Ok, Err, refl, sym, ◌∙◌, ap, subst, inl, inr, ◌⊎◌, arith}
+use Rattle.std.proofs.Common.{◌≡◌, ◌≢◌, ◌↔◌, ℕ, ◌-◌, List, length, take, Option, None, Some, Ok, Err, refl, sym, ◌∙◌, ap, subst, inl, inr, ◌⊎◌, arith}
 use Rattle.text_reading.specs.declared.stop.Stop.{Stop}
 use Rattle.text_reading.specs.declared.stop.Stop.TheVariants as stops
-use Rattle.text_reading.specs.declared.place.Place.{Place}
 use Rattle.text_reading.specs.Given.{Gives}
-use Rattle.text_reading.specs.Places.{IsPlace, GoesOnWithDigit}
-use Rattle.text_reading.specs.Reading.{Answer, Answer.answers}
+use Rattle.text_reading.specs.Reading.{Answer.answers}
 use Rattle.text_reading.proofs.Limits.{Passes}
 use Rattle.text_reading.proofs.OnePlace.{one_place, front_is}
 use Rattle.text_reading.proofs.WholeReaders.{IsWhole, one_tree, whole_place, whole_limit}
@@ -15,7 +13,9 @@ use Rattle.sierra_text.specs.declared.fault.TextFault.TheVariants as faults
 use Rattle.sierra_text.specs.Text.{Text, standard, unlimited}
 use Rattle.sierra_text.specs.LabelReading.{too_wide}
 use Rattle.sierra_text.specs.ProgramReading.{program_at}
-use Rattle.sierra_text.specs.Refusals.{IsShort, IsLong, place_behind, before_digits, refusal_of, Ends, PassesLimit, Refused}
+use Rattle.sierra_text.specs.Refusals.{IsShort, IsLong, place_behind, before_digits, refusal_of, Ends, PassesLimit, Refused, ReadsAs}
+use Rattle.sierra_text.specs.Layout.{layout}
+use Rattle.sierra_text.proofs.PrintedTexts.{layout_is_text}
 use Rattle.sierra_text.proofs.ProgramForms.{standard_wide, unlimited_wide, program_whole, program_lifts}
 
 abbrev pub whole : IsWhole (program_at standard) (Text standard)
@@ -33,6 +33,28 @@ not_both program short (inr (inr more)) = omega (arith, short.functions)
 
 -- ---- a text of a program
 
+-- that of a short program is not refused
+pub short_not_refused : (program : Program) (text : List ℕ) → Text standard program text → IsShort program → (fault : TextFault) → Refused text fault → ⊥
+short_not_refused program text is short (faults.Syntax place) h = h.2.no_program program is
+short_not_refused program text is short (faults.NumberTooWide place) h = h.2.no_program program is
+short_not_refused program text is short faults.TooLong h = not_both program short (subst IsLong (same_program text h.0 program h.1 is) h.2)
+short_not_refused program text is short faults.Memory h = h
+
+-- what is read of the plain layout
+pub layout_reads_back : (program : Program) (text : List ℕ) → Text standard program text → IsShort program → ReadsAs program (layout program)
+layout_reads_back program text is short =
+    let printed = layout_is_text program text is in
+    record {
+      is_text = printed;
+      no_other = λ other h. same_program (layout program) other program h printed;
+      accepted = short_not_refused program (layout program) printed short;
+    }
+
+-- two programs with one layout have one text
+pub same_layout : (one other : Program) (text other_text : List ℕ) → Text standard one text → Text standard other other_text → layout one ≡ layout other → one ≡ other
+same_layout one other text other_text is other_is same =
+    same_program (layout other) one other (subst (Text standard one) same (layout_is_text one text is)) (layout_is_text other other_text other_is)
+
 module _ (text rest : List ℕ) (program : Program) (read : program_at standard text ≡ answers (Ok program) rest) where
   pub read_program : Text standard program text
   read_program = (whole.sound text rest program read).0
@@ -42,13 +64,6 @@ module _ (text rest : List ℕ) (program : Program) (read : program_at standard 
 
   not_at_a_place : (front left : List ℕ) → Ends text front left → ⊥
   not_at_a_place front left ends = ends.no_program program read_program
-
-  -- a program that is short is not refused
-  pub short_not_refused : IsShort program → (fault : TextFault) → Refused text fault → ⊥
-  short_not_refused short (faults.Syntax place) h = not_at_a_place h.0 h.1 h.2
-  short_not_refused short (faults.NumberTooWide place) h = not_at_a_place h.0 h.1 h.2
-  short_not_refused short faults.TooLong h = not_both program short (subst IsLong (sym (same_as_read h.0 h.1)) h.2)
-  short_not_refused short faults.Memory h = h
 
   -- a program that is long is refused as too long alone
   pub long_refused : (fault : TextFault) → Refused text fault → (faults.TooLong ≡ fault) ⊎ (faults.TooLong ≡ faults.Memory)

@@ -1,25 +1,24 @@
 -- The tokens of Sierra text as readers: labels and words, with the blanks behind them.
-use Rattle.std.proofs.Common.{◌≡◌, ◌≢◌, ℕ, zero, suc, ◌<◌, ◌≤◌, List, [], ◌∷◌, ◌++◌, length, Bool, true, false, cond, not, ◌||◌, ◌&&◌, eqb, Option, None, Some, Result, Ok, Err, refl, sym, ◌∙◌, ap, subst, append_assoc, inl, inr, ◌⊎◌, arith}
-use Rattle.std.specs.Prelude.{codes}
+use Rattle.std.proofs.Common.{◌≡◌, ℕ, ◌<◌, List, [], ◌∷◌, ◌++◌, length, Bool, true, false, cond, not, ◌&&◌, Option, None, Some, Ok, Err, refl, sym, ◌∙◌, ap, subst, append_assoc, arith}
 use Rattle.std.specs.List.{list_all}
-use Rattle.std.proofs.lemmas.Bool.{or_parts, and_parts, and_from, and_right}
+use Rattle.std.proofs.lemmas.Bool.{and_parts, and_from}
 use Rattle.std.proofs.lemmas.List.{append-nil, length-append}
-use Rattle.text_reading.specs.Tokens.{Form, ◌then◌, is_word_byte, NoneNext, WholeWord, Blanks}
-use Rattle.text_reading.specs.Reading.{first, Answer, Answer.answers, Reader, done, ◌>>=◌, begins, scan, scan_from}
+use Rattle.text_reading.specs.Tokens.{Form, ◌then◌, is_word_byte, NoneNext, Blanks}
+use Rattle.text_reading.specs.Reading.{first, Answer.answers, Reader, scan, scan_from}
 use Rattle.text_reading.specs.TokenReading.{blanks_at, token}
-use Rattle.text_reading.proofs.Readers.{Starts, Ends, IsReader, bind_is, bind_starts, scan_is, scan_takes, scan_short, cancel, done_is, done_starts}
+use Rattle.text_reading.proofs.Readers.{Starts, Ends, IsReader, scan_is}
 use Rattle.text_reading.proofs.Limits.{Passes, Lifts, lifts_itself, scan_never}
 use Rattle.text_reading.proofs.BlankFacts.{Fresh, blanks_is, blanks_none, blanks_sound, blanks_complete, token_is, token_starts}
 use Rattle.text_reading.proofs.TokenFacts.{token_sound, token_complete, token_lifts, blanks_lift}
 use Rattle.text_reading.proofs.WholeTexts.{Moves}
-use Rattle.text_reading.proofs.Languages.{Reads, Limited, moves_then}
+use Rattle.text_reading.proofs.Languages.{Reads, Limited}
 use Rattle.text_reading.proofs.Exact.{IsExact}
 use Rattle.sierra_text.specs.declared.part.Part.{Part}
 use Rattle.sierra_text.specs.declared.labels.LabelSpot.{LabelSpot}
 use Rattle.sierra_text.specs.declared.labels.LabelSpot.TheVariants as spots
-use Rattle.sierra_text.specs.Ids.{is_word_start, IsWord, WordText, is_reserved, Label, is_label_byte}
+use Rattle.sierra_text.specs.Ids.{is_word_start, IsWord, WordText, is_reserved}
 use Rattle.sierra_text.specs.Text.{AnyWord}
-use Rattle.sierra_text.specs.LabelReading.{Sierra, too_wide, may_begin, LabelState, at_start, next_label, ends_tail, end_at, label_end, label_at, word_goes_on, next_word, any_word_end, bare_word_at, any_word_at}
+use Rattle.sierra_text.specs.LabelReading.{Sierra, too_wide, may_begin, at_start, next_label, ends_tail, end_at, label_end, label_at, word_goes_on, next_word, any_word_end, bare_word_at, any_word_at}
 use Rattle.sierra_text.proofs.LabelFacts.{ends_label, label_is, ending_of, label_ends, step, stops, label_answer, label_from, taken_from, state_at}
 use Rattle.sierra_text.proofs.LabelSound.{label_exact}
 use Rattle.sierra_text.proofs.LabelForms.{AnyLabel}

@@ -1,5 +1,5 @@
 -- Words, labels and ids. Each is one token: it takes as many bytes as it can, and no blank stands in it.
-use Rattle.std.specs.Prelude.{◌≡◌, ℕ, List, [], ◌∷◌, ◌++◌, Bool, true, false, not, ◌||◌, ◌&&◌, ◌==◌, nat_le, codes}
+use Rattle.std.specs.Prelude.{◌≡◌, ℕ, List, [], ◌∷◌, ◌++◌, Bool, true, not, ◌||◌, ◌&&◌, ◌==◌, nat_le, codes}
 use Rattle.std.specs.List.{list_all}
 use Rattle.std.specs.Str.{bytes_eq}
 use Rattle.text_reading.specs.Tokens.{Form, is_letter, is_word_byte, NoneNext, WholeWord}

@@ -8,7 +8,7 @@ use Rattle.sierra_text.specs.declared.part.Part.{Part}
 use Rattle.sierra_text.specs.declared.part.Part.TheVariants as parts
 use Rattle.sierra_text.specs.declared.labels.LabelSpot.{LabelSpot}
 use Rattle.sierra_text.specs.declared.labels.LabelSpot.TheVariants as spots
-use Rattle.sierra_text.specs.Ids.{is_word_start, is_reserved, is_printable, is_group_byte, is_bracket_byte}
+use Rattle.sierra_text.specs.Ids.{is_word_start, is_reserved, is_group_byte, is_bracket_byte}
 
 -- readers of Sierra text: numbers have one kind of limit, that of their place
 abbrev pub Sierra : Type 0 → Type 0

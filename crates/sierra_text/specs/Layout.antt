@@ -35,17 +35,29 @@ abbrev pub args_text : List Arg → List ℕ
 args_text [] = []
 args_text (arg ∷ more) = codes "<" ++ (join_by arg_text (codes ", ") (arg ∷ more) ++ codes ">")
 
+-- the name of an ability with what stands before it and behind it, and whether the type has it
+unfoldable pub ability_text : List ℕ → Bool → List ℕ
+ability_text name value = name ++ bool_text value
+
+-- one space and the abilities
+abbrev pub abilities_text : Info → List ℕ
+abilities_text info =
+    ability_text (codes " [storable: ") info.storable ++ (ability_text (codes ", drop: ") info.drop ++ (ability_text (codes ", dup: ") info.dup
+    ++ (ability_text (codes ", zero_sized: ") info.zero_sized ++ codes "]")))
+
 abbrev pub info_text : Option Info → List ℕ
 info_text None = []
-info_text (Some info) =
-    codes " [storable: " ++ (bool_text info.storable ++ (codes ", drop: " ++ (bool_text info.drop ++ (codes ", dup: " ++ (bool_text info.dup
-    ++ (codes ", zero_sized: " ++ (bool_text info.zero_sized ++ codes "]")))))))
+info_text (Some info) = abilities_text info
+
+-- `id = word<args>`
+abbrev pub declared_text : List ℕ → List ℕ → List Arg → List ℕ
+declared_text id generic args = id ++ (codes " = " ++ (generic ++ args_text args))
 
 abbrev pub type_line : TypeDecl → List ℕ
-type_line decl = codes "type " ++ (decl.id ++ (codes " = " ++ (decl.generic ++ (args_text decl.args ++ (info_text decl.info ++ codes ";\n")))))
+type_line decl = codes "type " ++ (declared_text decl.id decl.generic decl.args ++ (info_text decl.info ++ codes ";\n"))
 
 abbrev pub libfunc_line : LibfuncDecl → List ℕ
-libfunc_line decl = codes "libfunc " ++ (decl.id ++ (codes " = " ++ (decl.generic ++ (args_text decl.args ++ codes ";\n"))))
+libfunc_line decl = codes "libfunc " ++ (declared_text decl.id decl.generic decl.args ++ codes ";\n")
 
 abbrev pub var_text : ℕ → List ℕ
 var_text n = codes "[" ++ (decimal_text n ++ codes "]")
@@ -82,14 +94,14 @@ function_line function =
     function.id ++ (codes "@" ++ (decimal_text function.entry ++ (in_parentheses param_text function.params
     ++ (codes " -> " ++ (in_parentheses (λ name. name) function.results ++ codes ";\n")))))
 
--- a part behind those before it, with an empty line between them where both have lines
-abbrev pub next_part : List ℕ → List ℕ → List ℕ
-next_part [] part = part
-next_part (byte ∷ before) [] = byte ∷ before
-next_part (byte ∷ before) (first ∷ part) = (byte ∷ before) ++ (10 ∷ first ∷ part)
+-- a part behind those before it, with an empty line between them where neither is empty
+abbrev pub next_part : {A : Type 0} → (A → List ℕ) → List ℕ → List A → List ℕ
+next_part line before [] = before
+next_part line [] (x ∷ xs) = flat_map line (x ∷ xs)
+next_part line (byte ∷ before) (x ∷ xs) = (byte ∷ before) ++ (10 ∷ flat_map line (x ∷ xs))
 
 -- the plain layout
 abbrev pub layout : Program → List ℕ
 layout program =
-    next_part (next_part (next_part (flat_map type_line program.types) (flat_map libfunc_line program.libfuncs))
-    (flat_map statement_line program.statements)) (flat_map function_line program.functions)
+    next_part function_line (next_part statement_line (next_part libfunc_line (next_part type_line [] program.types) program.libfuncs) program.statements)
+    program.functions

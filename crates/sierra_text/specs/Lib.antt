@@ -7,3 +7,4 @@ pub mod ProgramReading
 pub mod Parts
 pub mod Refusals
 pub mod Layout
+pub mod AsciiNames

@@ -2,7 +2,7 @@
 -- belongs to.
 use Rattle.std.specs.Prelude.{ℕ, List, [], ◌∷◌, ◌++◌, Bool, true, false, cond, codes}
 use Rattle.std.specs.Str.{bytes_eq}
-use Rattle.text_reading.specs.Reading.{Reader, done, ◌>>=◌, branch}
+use Rattle.text_reading.specs.Reading.{done, ◌>>=◌, branch}
 use Rattle.text_reading.specs.TokenReading.{blanks_at, token}
 use Rattle.text_reading.specs.Repeating.{is_end, finish_at, repeat_at}
 use Rattle.sierra_types.specs.declared.program.Program.{Program}

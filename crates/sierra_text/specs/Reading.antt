@@ -1,11 +1,10 @@
 -- Reading the text of a program, form by form, each by its next byte.
-use Rattle.std.specs.Prelude.{ℕ, List, [], ◌∷◌, ◌++◌, Bool, true, false, cond, not, ◌==◌, Option, None, Some, Result, Ok, Err, codes}
+use Rattle.std.specs.Prelude.{◌≡◌, ◌<◌, ℕ, List, [], ◌∷◌, ◌++◌, length, Bool, true, false, cond, Option, None, Some, Ok, codes}
 use Rattle.std.specs.Str.{bytes_eq}
 use Rattle.text_reading.specs.Tokens.{is_digit}
-use Rattle.text_reading.specs.Reading.{Answer, Answer.answers, Reader, done, ◌>>=◌, begins, branch}
+use Rattle.text_reading.specs.Reading.{Answer.answers, done, ◌>>=◌, begins, branch}
 use Rattle.text_reading.specs.TokenReading.{blanks_at, mark_at, word_at, number_at, token}
-use Rattle.text_reading.specs.Repeating.{begins_with, is_end, choice, repeat_at}
-use Rattle.sierra_types.specs.declared.program.Program.{Program}
+use Rattle.text_reading.specs.Repeating.{begins_with, choice, repeat_at}
 use Rattle.sierra_types.specs.declared.program.TypeDecl.{TypeDecl}
 use Rattle.sierra_types.specs.declared.program.LibfuncDecl.{LibfuncDecl}
 use Rattle.sierra_types.specs.declared.program.Arg.{Arg}
@@ -17,7 +16,6 @@ use Rattle.sierra_types.specs.declared.program.Branch.{Branch}
 use Rattle.sierra_types.specs.declared.program.Target.{Target}
 use Rattle.sierra_types.specs.declared.program.Target.TheVariants as targets
 use Rattle.sierra_types.specs.declared.program.Function.{Function}
-use Rattle.sierra_text.specs.declared.part.Part.{Part}
 use Rattle.sierra_text.specs.declared.part.Part.TheVariants as parts
 use Rattle.sierra_text.specs.Text.{Limits, numbered}
 use Rattle.sierra_text.specs.LabelReading.{Sierra, too_wide, label_at, any_word_at}
@@ -49,6 +47,10 @@ comma_at = mark_at (codes ",")
 -- a comma, and one item more
 abbrev pub next_item_at : {A : Type 0} → Sierra A → Sierra A
 next_item_at item = comma_at >>= λ _. item
+
+-- behind a comma each item takes a byte at least
+pub record TakeBytes {A : Type 0} (item : Sierra A) : Type 0 where
+  pub shorter : (close : ℕ) (items : List A) (text rest : List ℕ) (more : List A) → one_more_at comma_at close item items text ≡ answers (Ok more) rest → length rest < length text
 
 unfoldable pub in_parentheses_at : {A : Type 0} → Sierra A → Sierra (List A)
 in_parentheses_at item = mark_at (codes "(") >>= λ _. any_number_at comma_at 41 item

@@ -54,3 +54,9 @@ Refused text (faults.NumberTooWide place) =
     (front : List ℕ) × (rest : List ℕ) × Ends text front rest × PassesLimit front rest × (place ≡ place_behind (before_digits front))
 Refused text faults.TooLong = (program : Program) × Text standard program text × IsLong program
 Refused text faults.Memory = ⊥
+
+-- This program and no other has the text, and nothing refuses it: so it is what reading the text answers.
+pub record ReadsAs (program : Program) (text : List ℕ) : Type 0 where
+  pub is_text : Text standard program text
+  pub no_other : (other : Program) → Text standard other text → other ≡ program
+  pub accepted : (fault : TextFault) → Refused text fault → ⊥

@@ -5,10 +5,11 @@ ghost use Rattle.text_reading.specs.Given.{Gives};
 ghost use Rattle.text_reading.specs.Tokens.{is_digit};
 ghost use Rattle.text_reading.specs.Repeating.{begins_with};
 ghost use Rattle.sierra_text.specs.Text.{standard};
-ghost use Rattle.sierra_text.specs.Reading.{comma_at, next_item_at, behind_items_at, negative_at, size_at, plain_at, marked_at, behind_label_at, labelled_at, arg_at, args_at};
+ghost use Rattle.sierra_text.specs.Reading.{negative_at, size_at, plain_at, marked_at, behind_label_at, labelled_at, arg_at, args_at};
 
 use crate::ids::{id, numbered};
 use crate::labels::label;
+use crate::lists::{Item, one_or_more};
 use crate::part::Part;
 use sierra_types::{Arg, List, Name};
 use std::alloc::Global;
@@ -112,38 +113,22 @@ fn arg(alloc: Global, rest: &mut &[u8]) -> Result<Arg, Stop<()>>
     }
 }
 
-/// One argument more, behind a `,`.
-#[tactic(auto, unfolding(crate::specs::Reading::comma_at))]
-fn next_arg(alloc: Global, rest: &mut &[u8]) -> Result<Arg, Stop<()>>
-    ensures { Gives (λ arg. arg) result rest.new.now (next_item_at (arg_at standard) rest.old.now) }
-{
-    mark(rest, b",")?;
-    arg(alloc, rest)
-}
+impl Item for Arg {
+    ghost reader = { arg_at standard };
 
-/// The rest of a list of arguments, behind the first.
-fn args_behind(alloc: Global, rest: &mut &[u8], first: Arg) -> Result<List<Arg>, Stop<()>>
-    ensures { Gives (λ args. args) result rest.new.now (behind_items_at comma_at 62 (arg_at standard) (first ∷ []) rest.old.now) }
-{
-    let mut args = Vec::new(alloc);
-    args.push(first)?;
-    while !is_next(rest, b'>') {
-        let next = next_arg(alloc, rest)?;
-        args.push(next)?;
+    fn read(alloc: Global, rest: &mut &[u8]) -> Result<Arg, Stop<()>> {
+        arg(alloc, rest)
     }
-    mark(rest, b">")?;
-    Ok(List::new(args))
 }
 
 /// Arguments in `<` and `>`, or nothing.
-#[tactic(auto, unfolding(crate::specs::Reading::args_at, crate::specs::Reading::one_or_more_at))]
+#[tactic(auto, using(crate::proofs::StandardLists::arg_moves), unfolding(crate::specs::Reading::args_at))]
 pub fn args(alloc: Global, rest: &mut &[u8]) -> Result<List<Arg>, Stop<()>>
     ensures { Gives (λ args. args) result rest.new.now (args_at standard rest.old.now) }
 {
     if is_next(rest, b'<') {
         mark(rest, b"<")?;
-        let first = arg(alloc, rest)?;
-        args_behind(alloc, rest, first)
+        one_or_more(alloc, rest, b'>')
     } else {
         Ok(List::new(Vec::new(alloc)))
     }

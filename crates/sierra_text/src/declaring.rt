@@ -13,7 +13,7 @@ use crate::declaration::{Declaration, Head};
 use crate::ids::{id, numbered, position, word_token};
 use crate::infos::info_or_nothing;
 use crate::labels::label;
-use crate::lists::{ids, params, vars};
+use crate::lists::{in_parentheses, vars};
 use crate::part::Part;
 use sierra_types::{Function, LibfuncDecl, Name, Statement, TypeDecl};
 use std::alloc::{AllocError, Global};
@@ -84,15 +84,15 @@ fn return_statement(alloc: Global, rest: &mut &[u8]) -> Result<Statement, Stop<(
 }
 
 /// A function, from behind its id.
-#[tactic(auto, unfolding(crate::specs::Reading::function_at))]
+#[tactic(auto, using(crate::proofs::StandardLists::param_moves, crate::proofs::StandardLists::id_moves), unfolding(crate::specs::Reading::function_at))]
 fn function(alloc: Global, rest: &mut &[u8], id: Name) -> Result<Function, Stop<()>>
     ensures { Gives (λ function. function) result rest.new.now (function_at standard id rest.old.now) }
 {
     mark(rest, b"@")?;
     let entry = position(rest)?;
-    let params = params(alloc, rest)?;
+    let params = in_parentheses(alloc, rest)?;
     mark(rest, b"->")?;
-    let results = ids(alloc, rest)?;
+    let results = in_parentheses(alloc, rest)?;
     declaration_end(rest)?;
     Ok(Function {
         id,

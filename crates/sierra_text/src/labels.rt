@@ -121,68 +121,66 @@ fn group_spot(around: usize, byte: u8) -> Option<LabelSpot>
     }
 }
 
+/// Where the byte behind this one stands, if a first word goes on with it.
+fn first_word_spot(label: &[u8], byte: u8) -> Option<LabelSpot>
+    ensures { result ≡ next_spot (is_reserved label.now) LabelSpot.FirstWord byte }
+{
+    if is_word_byte(byte) {
+        Some(LabelSpot::FirstWord)
+    } else if byte == b'[' && is_reserved(label) {
+        None
+    } else {
+        tail_spot(byte)
+    }
+}
+
+/// Where the byte behind this one stands, if it goes on with `::`.
+fn path_spot(byte: u8) -> Option<LabelSpot>
+    ensures { result ≡ next_spot false LabelSpot.Path byte }
+{
+    if is_word_start(byte) {
+        Some(LabelSpot::Word)
+    } else {
+        (byte == b'<').then_some(LabelSpot::Group(0))
+    }
+}
+
+/// Where the byte behind this one stands, if a word behind `::` goes on with it.
+fn word_spot(byte: u8) -> Option<LabelSpot>
+    ensures { result ≡ next_spot false LabelSpot.Word byte }
+{
+    if is_word_byte(byte) {
+        Some(LabelSpot::Word)
+    } else {
+        tail_spot(byte)
+    }
+}
+
+/// Where the byte behind this one stands, if a bracket with something in it goes on with it.
+fn in_bracket_spot(byte: u8) -> Option<LabelSpot>
+    ensures { result ≡ next_spot false LabelSpot.InBracket byte }
+{
+    if is_bracket_byte(byte) {
+        Some(LabelSpot::InBracket)
+    } else {
+        (byte == b']').then_some(LabelSpot::Behind)
+    }
+}
+
 /// Where the byte behind this one stands, if the label goes on with it.
 fn next_spot(label: &[u8], spot: LabelSpot, byte: u8) -> Option<LabelSpot>
     requires { depth_of spot < 2 ^ 63 }
     ensures { result ≡ next_spot (is_reserved label.now) spot byte }
 {
     match spot {
-        LabelSpot::Start => {
-            if is_word_start(byte) {
-                Some(LabelSpot::FirstWord)
-            } else {
-                None
-            }
-        }
-        LabelSpot::FirstWord => {
-            if is_word_byte(byte) {
-                Some(LabelSpot::FirstWord)
-            } else if byte == b'[' && is_reserved(label) {
-                None
-            } else {
-                tail_spot(byte)
-            }
-        }
-        LabelSpot::Colon => {
-            if byte == b':' {
-                Some(LabelSpot::Path)
-            } else {
-                None
-            }
-        }
-        LabelSpot::Path => {
-            if is_word_start(byte) {
-                Some(LabelSpot::Word)
-            } else if byte == b'<' {
-                Some(LabelSpot::Group(0))
-            } else {
-                None
-            }
-        }
-        LabelSpot::Word => {
-            if is_word_byte(byte) {
-                Some(LabelSpot::Word)
-            } else {
-                tail_spot(byte)
-            }
-        }
+        LabelSpot::Start => is_word_start(byte).then_some(LabelSpot::FirstWord),
+        LabelSpot::FirstWord => first_word_spot(label, byte),
+        LabelSpot::Colon => (byte == b':').then_some(LabelSpot::Path),
+        LabelSpot::Path => path_spot(byte),
+        LabelSpot::Word => word_spot(byte),
         LabelSpot::Group(around) => group_spot(around, byte),
-        LabelSpot::Bracket => {
-            if is_bracket_byte(byte) {
-                Some(LabelSpot::InBracket)
-            } else {
-                None
-            }
-        }
-        LabelSpot::InBracket => {
-            if is_bracket_byte(byte) {
-                Some(LabelSpot::InBracket)
-            } else if byte == b']' {
-                Some(LabelSpot::Behind)
-            } else {
-                None
-            }
-        }
+        LabelSpot::Bracket => is_bracket_byte(byte).then_some(LabelSpot::InBracket),
+        LabelSpot::InBracket => in_bracket_spot(byte),
         LabelSpot::Behind => tail_spot(byte),
     }
 }

@@ -1,7 +1,7 @@
-//! The text of Sierra programs: a program from its text.
+//! The text of Sierra programs: a program from its text, and the text of a program.
 //!
-//! The bytes of a text come in and a program goes out, or the first fault with its place. Every command that takes a
-//! program calls it.
+//! The bytes of a text come in and a program goes out, or the first fault with its place; a program comes in and its
+//! text in the plain layout goes out. Every command that takes a program reads it so.
 #![tactic(auto)]
 
 mod args;
@@ -16,10 +16,13 @@ mod laws;
 mod lists;
 mod part;
 mod parts;
+mod plain;
+mod printing;
 mod reading;
 #[cfg(test)]
 mod tests;
 
 pub use fault::TextFault;
-pub use laws::one_program;
+pub use laws::{names_are_ascii, one_layout, one_program, printed_is_text, printed_reads_back};
+pub use printing::print;
 pub use reading::read;

@@ -7,6 +7,7 @@ ghost use Rattle.sierra_text.specs.Text.{Text, standard};
 ghost use Rattle.sierra_text.specs.ProgramReading.{at_start, declarations_at, program_at};
 ghost use Rattle.sierra_text.specs.declared.fault.TextFault.{TextFault};
 ghost use Rattle.sierra_text.specs.Refusals.{IsShort, IsLong, Refused};
+ghost use Rattle.sierra_text.specs.AsciiNames.{HasAsciiNames};
 
 use crate::declaring::declaration;
 use crate::fault::TextFault;
@@ -65,6 +66,8 @@ fn is_short(program: &Program) -> bool
 pub fn read(alloc: Global, text: &[u8]) -> Result<Program, TextFault>
     // What is answered is the program that has this text.
     ensures found { IfOk result (λ program. Text standard program text.now × IsShort program) }
+    // It can be printed.
+    ensures named { IfOk result (λ program. HasAsciiNames program) }
     // A program that has this text is answered, unless memory runs out.
     ensures only { (program : Program) → Text standard program text.now → IsShort program → MatchResult result (λ p. p ≡ program) (λ fault. fault ≡ TextFault.Memory) }
     // A refusal has its cause, and a cause is answered unless memory runs out.

@@ -5,7 +5,7 @@ use Rattle.text_reading.specs.TokenReading.{mark_at}
 use Rattle.text_reading.proofs.Readers.{then_next, then_stops}
 use Rattle.text_reading.proofs.Stops.{gives_stop}
 use Rattle.sierra_text.specs.Text.{standard}
-use Rattle.sierra_text.specs.Reading.{comma_at, next_item_at, behind_items_at, branch_at}
+use Rattle.sierra_text.specs.Reading.{behind_items_at, branch_at}
 use Rattle.sierra_text.proofs.ListSteps.{list_ends, list_more, list_stops, list_moves}
 use Rattle.sierra_text.proofs.StandardLists.{branch_moves}
 use Rattle.sierra_text.proofs.branches.branches_behind.Goals as goal

@@ -1,7 +1,7 @@
 use Rattle.std.proofs.Common.{◌≡◌, [], ◌∷◌, length}
 use Rattle.text_reading.specs.Reading.{done}
 use Rattle.sierra_text.specs.Text.{standard}
-use Rattle.sierra_text.specs.Reading.{comma_at, behind_items_at, branch_at}
+use Rattle.sierra_text.specs.Reading.{behind_items_at, branch_at}
 use Rattle.sierra_text.proofs.branches.branches_behind.Given as goal
 
 abbrev pub invariant-loop-alloc : goal.invariant-loop-alloc

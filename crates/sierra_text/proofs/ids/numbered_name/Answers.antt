@@ -1,4 +1,4 @@
-use Rattle.std.proofs.Common.{◌≡◌, ◌∙◌, ◌<◌, ◌^◌, ap, sym, arith, lit≤, IfOk, rules}
+use Rattle.std.proofs.Common.{◌<◌, ◌^◌, arith, rules}
 use Rattle.byte_reading.proofs.DecimalLaws.{decimal_is_decimal_text}
 use Rattle.sierra_text.proofs.ids.numbered_name.Goals as goal
 
