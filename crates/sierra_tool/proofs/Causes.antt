@@ -13,22 +13,31 @@ use Rattle.sierra_tool.specs.declared.command.Command.{Command}
 use Rattle.sierra_tool.specs.declared.command.Command.TheVariants as commands
 use Rattle.sierra_tool.specs.declared.command.Source.{Source}
 use Rattle.sierra_tool.specs.declared.command.Source.TheVariants as sources
-use Rattle.sierra_tool.specs.declared.program.Program.{Program}
-use Rattle.sierra_tool.specs.declared.input.Input.{Input}
-use Rattle.sierra_tool.specs.Causes.{Reading, absent, unread, found, SourceReadings, Holds, IsRunFile, HasProgram, HasInput, HasRun, CanRun, ComesTo, Cause}
-use Rattle.sierra_tool.specs.Command.{limit}
-use Rattle.sierra_tool.specs.Forms.{IsProgram, IsInput}
+use Rattle.first_form.specs.declared.program.Program.{Program}
+use Rattle.first_form.specs.declared.input.Input.{Input}
+use Rattle.sierra_tool.specs.Causes.{Reading, absent, unread, found, SourceReadings, Holds, IsRunFile, HasProgram, HasInput, HasRun, CanRun, ComesTo, IsCasm, Cause}
+use Rattle.sierra_tool.specs.Command.{limit, IsRead}
+use Rattle.first_form.specs.Forms.{IsProgram, IsInput}
 use Rattle.felt64.specs.Field.{modulus}
 use Rattle.std.specs.FinMap.{get}
-use Rattle.sierra_tool.specs.Meaning.{entry_gas, code_of, parameter_types, arguments_of}
-use Rattle.sierra_tool.specs.Rejected.{IsRejected}
-use Rattle.sierra_tool.specs.declared.accepted.CheckFault.{CheckFault}
-use Rattle.sierra_tool.proofs.DecidedRuns.{accepted_or_rejected}
-use Rattle.sierra_tool.proofs.RejectedLaws.{not_both, rejected_once}
-use Rattle.sierra_tool.specs.Runs.{IsAccepted}
-use Rattle.sierra_tool.specs.Stages.{IsUnfit, IsRefused, NoProgram, NoInput, NoRun, OfRun}
-use Rattle.sierra_tool.proofs.FormLaws.{one_program, one_input}
-use Rattle.sierra_tool.proofs.VerdictLaws.{one_verdict, some_verdict}
+use Rattle.first_form.specs.Meaning.{entry_gas, code_of, parameter_types, arguments_of}
+use Rattle.first_form.specs.Rejected.{IsRejected}
+use Rattle.first_form.specs.declared.accepted.CheckFault.{CheckFault}
+use Rattle.first_form.proofs.DecidedRuns.{accepted_or_rejected}
+use Rattle.first_form.proofs.RejectedLaws.{not_both, rejected_once}
+use Rattle.first_form.specs.Runs.{IsAccepted}
+use Rattle.casm_word.specs.declared.instr.Instr.{Instr}
+use Rattle.first_form.specs.declared.judgement.Judgement.{Judgement}
+use Rattle.first_form.specs.declared.judgement.Judgement.TheVariants as judgements
+use Rattle.first_form.specs.Honest.{honest_run}
+use Rattle.first_form.specs.Judgements.{IsJudgement}
+use Rattle.run_file.specs.Spelling.{spelling}
+use Rattle.casm_text.specs.Refusals.{Refused}
+use Rattle.casm_text.specs.declared.fault.AsmFault.{AsmFault}
+use Rattle.sierra_tool.specs.Stages.{IsUnfit, IsRefused, NoProgram, NoInput, NoRun, NoCasm}
+use Rattle.first_form.proofs.FormLaws.{one_program, one_input}
+use Rattle.first_form.proofs.VerdictLaws.{one_verdict, some_verdict}
+use Rattle.casm_text.proofs.Refusing.{one_code, one_refusal as one_asm_fault, code_or_refusal, never_both as never_refused}
 
 -- ---- One source
 
@@ -86,7 +95,7 @@ module _ {X : Type 0} (source : Source) (wrong : List ℕ → Answer → Type 0)
     stage_once a b (inr p) (inl q) = absurd (never_both b p.0 q p.1)
     stage_once a b (inr p) (inr q) = once p.0 a b p.2 (subst (λ x. next x b) (one_held q.0 p.0 q.1 p.1) q.2)
 
--- ---- The stages of a check
+-- ---- What a run leads to
 
 one_cause : (program : Program) (input : Input) (run : Run) (e f : CheckFault) → IsRejected program input run e → IsRejected program input run f → e ≡ f
 one_cause program input run e f p q = rejected_once (code_of program) (parameter_types program) (arguments_of program input) run.rc (get run.memory) run.states e f p q
@@ -94,97 +103,183 @@ one_cause program input run e f p q = rejected_once (code_of program) (parameter
 pub never_accepted : (program : Program) (input : Input) (run : Run) (fault : CheckFault) → IsRejected program input run fault → IsAccepted program input run → ⊥
 never_accepted program input run fault p q = not_both (code_of program) (parameter_types program) (arguments_of program input) run.rc (get run.memory) run.states fault p q
 
+-- a judgement, as the answer that it is
+abbrev pub judged_answer : Judgement → Answer
+judged_answer (judgements.Accepted verdict) = answers.Judged verdict
+judged_answer (judgements.Rejected fault) = answers.RunRejected fault
+
+abbrev OfRun : Program → Input → Run → Answer → Type 0
+OfRun program input run answer = (judgement : Judgement) × IsJudgement program input run judgement × (answer ≡ judged_answer judgement)
+
+one_judgement : (program : Program) (input : Input) (run : Run) (a b : Judgement) → IsJudgement program input run a → IsJudgement program input run b → judged_answer a ≡ judged_answer b
+one_judgement program input run (judgements.Accepted a) (judgements.Accepted b) p q = ap answers.Judged (one_verdict program input run a b p.1 q.1)
+one_judgement program input run (judgements.Accepted a) (judgements.Rejected b) p q = absurd (never_accepted program input run b q p.0)
+one_judgement program input run (judgements.Rejected a) (judgements.Accepted b) p q = absurd (never_accepted program input run a p q.0)
+one_judgement program input run (judgements.Rejected a) (judgements.Rejected b) p q = ap answers.RunRejected (one_cause program input run a b p q)
+
 of_run_once : (program : Program) (input : Input) (run : Run) (a b : Answer) → OfRun program input run a → OfRun program input run b → a ≡ b
-of_run_once program input run a b (inl p) (inl q) = p.2 ∙ ap answers.RunRejected (one_cause program input run p.0 q.0 p.1 q.1) ∙ sym q.2
-of_run_once program input run a b (inl p) (inr q) = absurd (never_accepted program input run p.0 p.1 q.0)
-of_run_once program input run a b (inr p) (inl q) = absurd (never_accepted program input run q.0 q.1 p.0)
-of_run_once program input run a b (inr p) (inr q) = p.1.2 ∙ ap answers.Judged (one_verdict program input run p.1.0 q.1.0 p.1.1 q.1.1) ∙ sym q.1.2
+of_run_once program input run a b p q = p.2 ∙ one_judgement program input run p.0 q.0 p.1 q.1 ∙ sym q.2
 
-abbrev AfterGas : SourceReadings → Program → Input → Answer → Type 0
-AfterGas readings program input = Stage sources.Run NoRun IsRunFile (OfRun program input) (readings sources.Run)
+-- ---- The stages of each command
 
-abbrev AfterInput : SourceReadings → Program → Input → Answer → Type 0
-AfterInput readings program input answer =
-    ((input.gas < entry_gas program) × (answer ≡ answers.NotEnoughGas (entry_gas program) input.gas)) ⊎ ((entry_gas program ≤ input.gas) × AfterGas readings program input answer)
+-- what comes behind the gas
+abbrev AfterGas : Command → SourceReadings → Program → Input → Answer → Type 0
+AfterGas (commands.Check check) readings program input answer = Stage sources.Run NoRun IsRunFile (OfRun program input) (readings sources.Run) answer
+AfterGas (commands.Run execute) readings program input answer = (file : List ℕ) × (file ≡ spelling (honest_run program input)) × (answer ≡ answers.Ran file)
+AfterGas (commands.Asm assemble) readings program input answer = ⊥
+AfterGas commands.Planned readings program input answer = ⊥
 
-abbrev AfterProgram : SourceReadings → Program → Answer → Type 0
-AfterProgram readings program = Stage sources.Input (NoInput program) (IsInput program) (AfterInput readings program) (readings sources.Input)
+abbrev AfterInput : Command → SourceReadings → Program → Input → Answer → Type 0
+AfterInput command readings program input answer =
+    ((input.gas < entry_gas program) × (answer ≡ answers.NotEnoughGas (entry_gas program) input.gas)) ⊎ ((entry_gas program ≤ input.gas) × AfterGas command readings program input answer)
 
-abbrev Ordered : SourceReadings → Answer → Type 0
-Ordered readings = Stage sources.Program NoProgram IsProgram (AfterProgram readings) (readings sources.Program)
+abbrev AfterProgram : Command → SourceReadings → Program → Answer → Type 0
+AfterProgram command readings program = Stage sources.Input (NoInput program) (IsInput program) (AfterInput command readings program) (readings sources.Input)
+
+-- the stages of a command that reads a program
+abbrev Starting : Command → SourceReadings → Answer → Type 0
+Starting command readings = Stage sources.Program NoProgram IsProgram (AfterProgram command readings) (readings sources.Program)
+
+abbrev OfCode : List Instr → Answer → Type 0
+OfCode code answer = answer ≡ answers.Assembled code
+
+abbrev Assembling : SourceReadings → Answer → Type 0
+Assembling readings = Stage sources.Casm NoCasm IsCasm OfCode (readings sources.Casm)
+
+abbrev Ordered : Command → SourceReadings → Answer → Type 0
+Ordered (commands.Check check) readings answer = Starting (commands.Check check) readings answer
+Ordered (commands.Run execute) readings answer = Starting (commands.Run execute) readings answer
+Ordered (commands.Asm assemble) readings answer = Assembling readings answer
+Ordered commands.Planned readings answer = answer ≡ answers.NotBuilt
 
 one_refusal : (bytes : List ℕ) (e f : FileRefusal) → reading bytes ≡ Err e → reading bytes ≡ Err f → e ≡ f
 one_refusal bytes e f p q = cc
 
-after_gas_once : (readings : SourceReadings) (program : Program) (input : Input) (a b : Answer) → AfterGas readings program input a → AfterGas readings program input b → a ≡ b
-after_gas_once readings program input =
+after_gas_once : (command : Command) (readings : SourceReadings) (program : Program) (input : Input) (a b : Answer) → AfterGas command readings program input a → AfterGas command readings program input b → a ≡ b
+after_gas_once (commands.Check check) readings program input a b p q =
     stage_once sources.Run NoRun IsRunFile (OfRun program input)
     (λ bytes a b p q. p.2 ∙ ap answers.RunRefused (one_refusal bytes p.0 q.0 p.1.1 q.1.1) ∙ sym q.2)
     (λ bytes a run p q. p.1.0 run q)
     (λ bytes p q p_is q_is. one_run p q p_is.0 q_is.0 (sym p_is.1 ∙ q_is.1))
-    (of_run_once program input) (readings sources.Run)
+    (of_run_once program input) (readings sources.Run) a b p q
+after_gas_once (commands.Run execute) readings program input a b p q = p.2 ∙ ap answers.Ran (p.1 ∙ sym q.1) ∙ sym q.2
+after_gas_once (commands.Asm assemble) readings program input a b p q = absurd p
+after_gas_once commands.Planned readings program input a b p q = absurd p
 
-after_input_once : (readings : SourceReadings) (program : Program) (input : Input) (a b : Answer) → AfterInput readings program input a → AfterInput readings program input b → a ≡ b
-after_input_once readings program input a b (inl p) (inl q) = p.1 ∙ sym q.1
-after_input_once readings program input a b (inl p) (inr q) = absurd (omega (arith, p.0, q.0))
-after_input_once readings program input a b (inr p) (inl q) = absurd (omega (arith, p.0, q.0))
-after_input_once readings program input a b (inr p) (inr q) = after_gas_once readings program input a b p.1 q.1
+after_input_once : (command : Command) (readings : SourceReadings) (program : Program) (input : Input) (a b : Answer) → AfterInput command readings program input a → AfterInput command readings program input b → a ≡ b
+after_input_once command readings program input a b (inl p) (inl q) = p.1 ∙ sym q.1
+after_input_once command readings program input a b (inl p) (inr q) = absurd (omega (arith, p.0, q.0))
+after_input_once command readings program input a b (inr p) (inl q) = absurd (omega (arith, p.0, q.0))
+after_input_once command readings program input a b (inr p) (inr q) = after_gas_once command readings program input a b p.1 q.1
 
-after_program_once : (readings : SourceReadings) (program : Program) (a b : Answer) → AfterProgram readings program a → AfterProgram readings program b → a ≡ b
-after_program_once readings program =
-    stage_once sources.Input (NoInput program) (IsInput program) (AfterInput readings program)
+after_program_once : (command : Command) (readings : SourceReadings) (program : Program) (a b : Answer) → AfterProgram command readings program a → AfterProgram command readings program b → a ≡ b
+after_program_once command readings program =
+    stage_once sources.Input (NoInput program) (IsInput program) (AfterInput command readings program)
     (λ bytes a b p q. p.1 ∙ sym q.1) (λ bytes a input p q. p.0 input q) (one_input program)
-    (after_input_once readings program) (readings sources.Input)
+    (after_input_once command readings program) (readings sources.Input)
 
-ordered_once : (readings : SourceReadings) (a b : Answer) → Ordered readings a → Ordered readings b → a ≡ b
-ordered_once readings =
-    stage_once sources.Program NoProgram IsProgram (AfterProgram readings)
+starting_once : (command : Command) (readings : SourceReadings) (a b : Answer) → Starting command readings a → Starting command readings b → a ≡ b
+starting_once command readings =
+    stage_once sources.Program NoProgram IsProgram (AfterProgram command readings)
     (λ bytes a b p q. p.1 ∙ sym q.1) (λ bytes a program p q. p.0 program q) one_program
-    (after_program_once readings) (readings sources.Program)
+    (after_program_once command readings) (readings sources.Program)
+
+assembling_once : (readings : SourceReadings) (a b : Answer) → Assembling readings a → Assembling readings b → a ≡ b
+assembling_once readings =
+    stage_once sources.Casm NoCasm IsCasm OfCode
+    (λ text a b p q. p.2 ∙ ap answers.CasmRefused (one_asm_fault text p.0 q.0 p.1 q.1) ∙ sym q.2)
+    (λ text a code p q. never_refused text code p.0 p.1 q.0 q.1)
+    (λ text a b p q. one_code a b text p.0 q.0)
+    (λ code a b p q. p ∙ sym q) (readings sources.Casm)
+
+ordered_once : (command : Command) (readings : SourceReadings) (a b : Answer) → Ordered command readings a → Ordered command readings b → a ≡ b
+ordered_once (commands.Check check) readings = starting_once (commands.Check check) readings
+ordered_once (commands.Run execute) readings = starting_once (commands.Run execute) readings
+ordered_once (commands.Asm assemble) readings = assembling_once readings
+ordered_once commands.Planned readings = λ a b p q. p ∙ sym q
+
+-- ---- Causes by the stages
+
+-- a command that reads a program, an input, a run or code goes by the stages of such a command
+reads_program : (command : Command) (readings : SourceReadings) (a : Answer) → IsRead command sources.Program → Starting command readings a → Ordered command readings a
+reads_program (commands.Check check) readings a is p = p
+reads_program (commands.Run execute) readings a is p = p
+reads_program (commands.Asm assemble) readings a is p = absurd cc
+reads_program commands.Planned readings a is p = absurd cc
+
+reads_input : (command : Command) (readings : SourceReadings) (a : Answer) → IsRead command sources.Input → Starting command readings a → Ordered command readings a
+reads_input (commands.Check check) readings a is p = p
+reads_input (commands.Run execute) readings a is p = p
+reads_input (commands.Asm assemble) readings a is p = absurd cc
+reads_input commands.Planned readings a is p = absurd cc
+
+-- .. from the program and the input on to the run
+abbrev RunStage : SourceReadings → Program → Input → Answer → Type 0
+RunStage readings program input = Stage sources.Run NoRun IsRunFile (OfRun program input) (readings sources.Run)
+
+reads_run : (command : Command) (readings : SourceReadings) (program : Program) (input : Input) (a : Answer) → IsRead command sources.Run → CanRun readings program input → RunStage readings program input a → Ordered command readings a
+reads_run (commands.Check check) readings program input a is can p = inr (program, can.program_read, inr (input, can.input_read, inr (can.gas, p)))
+reads_run (commands.Run execute) readings program input a is can p = absurd cc
+reads_run (commands.Asm assemble) readings program input a is can p = absurd cc
+reads_run commands.Planned readings program input a is can p = absurd cc
+
+reads_casm : (command : Command) (readings : SourceReadings) (a : Answer) → IsRead command sources.Casm → Assembling readings a → Ordered command readings a
+reads_casm (commands.Check check) readings a is p = absurd cc
+reads_casm (commands.Run execute) readings a is p = absurd cc
+reads_casm (commands.Asm assemble) readings a is p = p
+reads_casm commands.Planned readings a is p = absurd cc
 
 -- a source that a command comes to and that is unfit
-unfit_ordered : (command : Command) (readings : SourceReadings) (source : Source) (a : Answer) → ComesTo command readings source → IsUnfit source (readings source) a → Ordered readings a
-unfit_ordered command readings sources.Program a comes unfit = inl (inl unfit)
-unfit_ordered command readings sources.Input a comes unfit = inr (comes.1, comes.2, inl (inl unfit))
-unfit_ordered command readings sources.Run a comes unfit =
-    let can = comes.3 in
-    inr (comes.1, can.program_read, inr (comes.2, can.input_read, inr (can.gas, inl (inl unfit))))
+unfit_ordered : (command : Command) (readings : SourceReadings) (source : Source) (a : Answer) → ComesTo command readings source → IsUnfit source (readings source) a → Ordered command readings a
+unfit_ordered command readings sources.Program a comes unfit = reads_program command readings a comes (inl (inl unfit))
+unfit_ordered command readings sources.Input a comes unfit = reads_input command readings a comes.0 (inr (comes.1, comes.2, inl (inl unfit)))
+unfit_ordered command readings sources.Run a comes unfit = reads_run command readings comes.1 comes.2 a comes.0 comes.3 (inl (inl unfit))
+unfit_ordered command readings sources.Casm a comes unfit = reads_casm command readings a comes (inl (inl unfit))
 
 same_gas : (need given entry gas : ℕ) → need ≡ entry → given ≡ gas → answers.NotEnoughGas need given ≡ answers.NotEnoughGas entry gas
 same_gas need given entry gas p q = cc
 
 -- the cause of an answer, by the stages
-ordered : (command : Command) (readings : SourceReadings) (a : Answer) → Cause (Some command) readings a → Ordered readings a
+ordered : (command : Command) (readings : SourceReadings) (a : Answer) → Cause (Some command) readings a → Ordered command readings a
+ordered command readings answers.Usage c = absurd c
 ordered command readings (answers.Missing source) c = unfit_ordered command readings source (answers.Missing source) c.0 (inl (c.1, refl))
 ordered command readings (answers.ReadFault source) c = unfit_ordered command readings source (answers.ReadFault source) c.0 (inr (inl (c.1, refl)))
 ordered command readings (answers.TooLong source) c = unfit_ordered command readings source (answers.TooLong source) c.0 (inr (inr (c.1, refl)))
-ordered command readings answers.NotBuilt (inl p) = inl (inr (p.0, p.1, p.2, (p.3, refl)))
-ordered command readings answers.NotBuilt (inr p) = inr (p.0, p.1, inl (inr (p.2.0, p.2.1, p.2.2, (p.2.3, refl))))
-ordered command readings (answers.NotEnoughGas need given) c =
-    inr (c.0, c.2, inr (c.1, c.3, inl (omega (arith, c.4, c.5, c.6), same_gas need given (entry_gas c.0) c.1.gas c.5 c.6)))
-ordered command readings (answers.RunRefused refusal) c =
-    let can = c.0.3 in
+ordered command readings answers.NotBuilt (inl p) = subst (λ (c : Command). Ordered c readings answers.NotBuilt) (sym p) refl
+ordered command readings answers.NotBuilt (inr (inl p)) = reads_program command readings answers.NotBuilt p.0 (inl (inr (p.1.0, p.1.1, p.1.2, (p.1.3, refl))))
+ordered command readings answers.NotBuilt (inr (inr p)) = reads_input command readings answers.NotBuilt p.0 (inr (p.1, p.2, inl (inr (p.3.0, p.3.1, p.3.2, (p.3.3, refl)))))
+ordered command readings (answers.CasmRefused fault) c =
     let held = c.1 in
-    inr (c.0.1, can.program_read, inr (c.0.2, can.input_read, inr (can.gas, inl (inr (held.0, held.1, held.2, (refusal, held.3, refl))))))
+    reads_casm command readings (answers.CasmRefused fault) c.0 (inl (inr (held.0, held.1, held.2, (fault, held.3, refl))))
+ordered command readings (answers.NotEnoughGas need given) c =
+    reads_input command readings (answers.NotEnoughGas need given) c.0
+    (inr (c.1, c.3, inr (c.2, c.4, inl (omega (arith, c.5, c.6, c.7), same_gas need given (entry_gas c.1) c.2.gas c.6 c.7))))
+ordered command readings (answers.RunRefused refusal) c =
+    let held = c.1 in
+    reads_run command readings c.0.1 c.0.2 (answers.RunRefused refusal) c.0.0 c.0.3 (inl (inr (held.0, held.1, held.2, (refusal, held.3, refl))))
 ordered command readings (answers.RunRejected fault) c =
-    let can = c.3 in
-    inr (c.0, can.program_read, inr (c.1, can.input_read, inr (can.gas, inr (c.2, c.4, inl (fault, c.5, refl)))))
+    reads_run command readings c.1 c.2 (answers.RunRejected fault) c.0 c.4 (inr (c.3, c.5, (judgements.Rejected fault, c.6, refl)))
 ordered command readings (answers.Judged verdict) c =
-    let can = c.3 in
-    inr (c.0, can.program_read, inr (c.1, can.input_read, inr (can.gas, inr (c.2, c.4, inr (c.5, (verdict, c.6, refl))))))
+    reads_run command readings c.1 c.2 (answers.Judged verdict) c.0 c.4 (inr (c.3, c.5, (judgements.Accepted verdict, (c.6, c.7), refl)))
+ordered command readings (answers.Ran file) c =
+    let can = c.4 in
+    subst (λ (c : Command). Ordered c readings (answers.Ran file)) (sym c.1)
+    (inr (c.2, can.program_read, inr (c.3, can.input_read, inr (can.gas, (file, c.5, refl)))))
+ordered command readings (answers.Assembled code) c =
+    reads_casm command readings (answers.Assembled code) c.0 (inr (code, c.1, refl))
 
 pub one_answer : (command : Option Command) (readings : SourceReadings) (a b : Answer) → Cause command readings a → Cause command readings b → a ≡ b
 one_answer None readings a b p q = p ∙ sym q
-one_answer (Some command) readings a b p q = ordered_once readings a b (ordered command readings a p) (ordered command readings b q)
+one_answer (Some command) readings a b p q = ordered_once command readings a b (ordered command readings a p) (ordered command readings b q)
 
 -- ---- There is an answer
 
-module _ (check : Check) (readings : SourceReadings)
+module _ (command : Command) (readings : SourceReadings)
     (small : (source : Source) (bytes : List ℕ) → readings source ≡ found bytes → All (λ byte. byte < 256) bytes)
-    (none : (answer : Answer) → Cause (Some (commands.Check check)) readings answer → ⊥)
+    (none : (answer : Answer) → Cause (Some command) readings answer → ⊥)
   where
     -- a source that the command comes to gave bytes, and not too many, ..
-    held : (source : Source) → ComesTo (commands.Check check) readings source → ((bytes : List ℕ) → readings source ≡ found bytes → length bytes ≤ limit source → ⊥) → ⊥
+    held : (source : Source) → ComesTo command readings source → ((bytes : List ℕ) → readings source ≡ found bytes → length bytes ≤ limit source → ⊥) → ⊥
     held source comes more = by_reading (readings source) refl
       where
         by_reading : (given : Reading) → readings source ≡ given → ⊥
@@ -196,42 +291,55 @@ module _ (check : Check) (readings : SourceReadings)
         ]
 
     -- .. a run is rejected or judged, ..
-    no_run : (program : Program) (input : Input) (run : Run) → CanRun readings program input → HasRun readings run → ⊥
-    no_run program input run can has =
+    no_run : IsRead command sources.Run → (program : Program) (input : Input) (run : Run) → CanRun readings program input → HasRun readings run → ⊥
+    no_run reads program input run can has =
         let fits : input.argument < modulus = can.input_read.3.argument_below in
         elim (accepted_or_rejected (code_of program) input.argument run.rc (get run.memory) run.states has.3.0.state_count fits) [
           | inl accepted ↦
               let verdict = some_verdict program input run can.gas accepted in
-              none (answers.Judged verdict.0) (program, input, run, can, has, accepted, verdict.1)
-          | inr rejected ↦ none (answers.RunRejected rejected.0) (program, input, run, can, has, rejected.1)
+              none (answers.Judged verdict.0) (reads, program, input, run, can, has, accepted, verdict.1)
+          | inr rejected ↦ none (answers.RunRejected rejected.0) (reads, program, input, run, can, has, rejected.1)
         ]
 
     -- .. bytes are refused or a run's, ..
-    no_bytes : (program : Program) (input : Input) → CanRun readings program input → ⊥
-    no_bytes program input can = held sources.Run (refl, program, input, can) (λ bytes is within. by_run bytes is within (reading bytes) refl)
+    no_bytes : IsRead command sources.Run → (program : Program) (input : Input) → CanRun readings program input → ⊥
+    no_bytes reads program input can = held sources.Run (reads, program, input, can) (λ bytes is within. by_run bytes is within (reading bytes) refl)
       where
         by_run : (bytes : List ℕ) → readings sources.Run ≡ found bytes → length bytes ≤ limit sources.Run → (read : Result Run FileRefusal) → reading bytes ≡ read → ⊥
-        by_run bytes is within (Ok run) read = no_run program input run can (bytes, is, within, (reads_exactly bytes run (small sources.Run bytes is)).0 read)
+        by_run bytes is within (Ok run) read = no_run reads program input run can (bytes, is, within, (reads_exactly bytes run (small sources.Run bytes is)).0 read)
         by_run bytes is within (Err refusal) read =
             none (answers.RunRefused refusal)
-            ((refl, program, input, can), (bytes, is, within, ((λ run spelled. absurd (cc (read, (reads_exactly bytes run (small sources.Run bytes is)).1 spelled))), read)))
+            ((reads, program, input, can), (bytes, is, within, ((λ run spelled. absurd (cc (read, (reads_exactly bytes run (small sources.Run bytes is)).1 spelled))), read)))
 
     -- .. an input has too little gas or enough, ..
-    no_gas : (program : Program) (input : Input) → HasProgram readings program → HasInput readings program input → ⊥
-    no_gas program input has has_input = elim (cases_lt input.gas (entry_gas program)) [
-      | inl less ↦ none (answers.NotEnoughGas (entry_gas program) input.gas) (program, input, has, has_input, less, refl, refl)
-      | inr enough ↦ no_bytes program input (record { program_read = has; input_read = has_input; gas = omega arith })
+    no_gas : IsRead command sources.Input → ((program : Program) (input : Input) → CanRun readings program input → ⊥) → (program : Program) (input : Input) → HasProgram readings program → HasInput readings program input → ⊥
+    no_gas reads more program input has has_input = elim (cases_lt input.gas (entry_gas program)) [
+      | inl less ↦ none (answers.NotEnoughGas (entry_gas program) input.gas) (reads, program, input, has, has_input, less, refl, refl)
+      | inr enough ↦ more program input (record { program_read = has; input_read = has_input; gas = omega arith })
     ]
 
-    -- .. and a text is none or one of an input, and of a program
-    no_input : (program : Program) → HasProgram readings program → ⊥
-    no_input program has = held sources.Input (refl, program, has) (λ text is within.
-        none answers.NotBuilt (inr (program, has, (text, is, within, λ input is_input. no_gas program input has (text, is, within, is_input)))))
+    -- .. a text is none or one of an input, and of a program, ..
+    no_input : IsRead command sources.Input → ((program : Program) (input : Input) → CanRun readings program input → ⊥) → (program : Program) → HasProgram readings program → ⊥
+    no_input reads more program has = held sources.Input (reads, program, has) (λ text is within.
+        none answers.NotBuilt (inr (inr (reads, program, has, (text, is, within, λ input is_input. no_gas reads more program input has (text, is, within, is_input))))))
 
-    no_program : ⊥
-    no_program = held sources.Program refl (λ text is within.
-        none answers.NotBuilt (inl (text, is, within, λ program is_program. no_input program (text, is, within, is_program))))
+    no_program : IsRead command sources.Program → IsRead command sources.Input → ((program : Program) (input : Input) → CanRun readings program input → ⊥) → ⊥
+    no_program reads reads_input more = held sources.Program reads (λ text is within.
+        none answers.NotBuilt (inr (inl (reads, (text, is, within, λ program is_program. no_input reads_input more program (text, is, within, is_program))))))
+
+    -- .. and of code
+    no_casm : IsRead command sources.Casm → ⊥
+    no_casm reads = held sources.Casm reads (λ text is within. elim (code_or_refusal text) [
+      | inl code ↦ none (answers.Assembled code.0) (reads, (text, is, within, (code.1, code.2)))
+      | inr refused ↦ none (answers.CasmRefused refused.0) (reads, (text, is, within, refused.1))
+    ])
 
 pub some_answer : (command : Option Command) (readings : SourceReadings) → ((source : Source) (bytes : List ℕ) → readings source ≡ found bytes → All (λ byte. byte < 256) bytes) → ((answer : Answer) → Cause command readings answer → ⊥) → ⊥
-some_answer None readings small none = none answers.NotBuilt refl
-some_answer (Some (commands.Check check)) readings small none = no_program check readings small none
+some_answer None readings small none = none answers.Usage refl
+some_answer (Some (commands.Check check)) readings small none =
+    no_program (commands.Check check) readings small none refl refl (no_bytes (commands.Check check) readings small none refl)
+some_answer (Some (commands.Run execute)) readings small none =
+    no_program (commands.Run execute) readings small none refl refl
+    (λ program input can. none (answers.Ran (spelling (honest_run program input))) (execute, refl, program, input, can, refl))
+some_answer (Some (commands.Asm assemble)) readings small none = no_casm (commands.Asm assemble) readings small none refl
+some_answer (Some commands.Planned) readings small none = none answers.NotBuilt (inl refl)

@@ -1,6 +1,9 @@
 -- Of known files, the status of the tool is exact.
-use Rattle.std.proofs.Common.{◌≡◌, ◌≢◌, ◌<◌, ◌↔◌, ℕ, List, Option, Some, None, refl, sym, ◌∙◌, ap, subst, inl, inr, ◌⊎◌, arith}
-use Rattle.std.specs.Prelude.{MatchOption, IsSome}
+use Rattle.std.proofs.Common.{◌≡◌, ◌≢◌, ◌<◌, ◌↔◌, ℕ, ◌-◌, List, [], ◌∷◌, length, Option, Some, None, refl, sym, ◌∙◌, ap, subst, inl, inr, ◌⊎◌, arith}
+use Rattle.std.specs.Prelude.{MatchOption, IsSome, codes}
+use Rattle.std.proofs.Common.{get_or, true, false}
+use Rattle.std.proofs.lemmas.Slice.Eq.{bytes_eq-Decides}
+use Rattle.std.specs.Str.{bytes_eq}
 use Rattle.std.specs.FinMap.{get}
 use Rattle.std.specs.Option.{option_and_then}
 use Rattle.edge_io.specs.Files.{FileMap, FilesView}
@@ -11,20 +14,24 @@ use Rattle.sierra_tool.specs.declared.command.Command.{Command}
 use Rattle.sierra_tool.specs.declared.command.Command.TheVariants as commands
 use Rattle.sierra_tool.specs.declared.command.Source.{Source}
 use Rattle.sierra_tool.specs.declared.command.Source.TheVariants as sources
-use Rattle.sierra_tool.specs.declared.program.Program.{Program}
-use Rattle.sierra_tool.specs.declared.input.Input.{Input}
+use Rattle.first_form.specs.declared.program.Program.{Program}
+use Rattle.first_form.specs.declared.input.Input.{Input}
 use Rattle.sierra_tool.specs.Causes.{Reading, absent, unread, found, SourceReadings, Gives, AreReadings, Holds, CanRun, ComesTo, Cause}
-use Rattle.sierra_tool.specs.Forms.{IsProgram}
-use Rattle.sierra_tool.specs.Command.{Parses, name_of, IsRead, status_of}
-use Rattle.sierra_tool.specs.Exact.{reading_of, readings_of, HasRunThat, HasExactStatus, IsExact}
+use Rattle.first_form.specs.Forms.{IsProgram}
+use Rattle.sierra_tool.specs.Command.{IsPlanned, IsCommand, Parses, name_of, IsRead, status_of}
+use Rattle.sierra_tool.specs.Exact.{reading_of, readings_of, HasStart, HasRunThat, HasCasm, HasExactStatus, IsExact}
 use Rattle.sierra_tool.specs.Tool.{Tool}
 use Rattle.felt64.specs.Field.{modulus}
-use Rattle.sierra_tool.specs.Meaning.{code_of}
-use Rattle.sierra_tool.specs.Runs.{IsAccepted}
+use Rattle.first_form.specs.Meaning.{code_of}
+use Rattle.first_form.specs.Runs.{IsAccepted}
+use Rattle.sierra_tool.specs.declared.command.Assemble.{Assemble}
 use Rattle.sierra_tool.specs.declared.command.Check.{Check}
+use Rattle.sierra_tool.specs.declared.command.Execute.{Execute}
+use Rattle.first_form.specs.Honest.{honest_run}
+use Rattle.run_file.specs.Spelling.{spelling}
 use Rattle.sierra_tool.proofs.Causes.{one_answer, never_accepted}
-use Rattle.sierra_tool.proofs.DecidedRuns.{accepted_or_rejected}
-use Rattle.sierra_tool.proofs.VerdictLaws.{some_verdict}
+use Rattle.first_form.proofs.DecidedRuns.{accepted_or_rejected}
+use Rattle.first_form.proofs.VerdictLaws.{some_verdict}
 
 -- ---- Two commands that read the same, from sources that gave the same
 
@@ -37,6 +44,8 @@ holds_over source is given other agrees held = (held.0, agrees (λ e. cc (held.1
 
 module _ (command other : Command) (readings others : SourceReadings)
     (same : (source : Source) → name_of (Some command) source ≡ name_of (Some other) source)
+    (as_planned : command ≡ commands.Planned → other ≡ commands.Planned)
+    (as_run : (execute : Execute) → command ≡ commands.Run execute → (another : Execute) × (other ≡ commands.Run another))
     (agrees : Agrees readings others)
   where
     read_over : (source : Source) → IsRead command source → IsRead other source
@@ -53,36 +62,122 @@ module _ (command other : Command) (readings others : SourceReadings)
     comes_over sources.Program comes = read_over sources.Program comes
     comes_over sources.Input comes = (read_over sources.Input comes.0, comes.1, held_over sources.Program (λ text. IsProgram text comes.1) comes.2)
     comes_over sources.Run comes = (read_over sources.Run comes.0, comes.1, comes.2, can_over comes.1 comes.2 comes.3)
+    comes_over sources.Casm comes = read_over sources.Casm comes
 
     cause_over : (answer : Answer) → ((source : Source) → answer ≢ answers.ReadFault source) → Cause (Some command) readings answer → Cause (Some other) others answer
+    cause_over answers.Usage calm c = absurd c
     cause_over (answers.Missing source) calm c = (comes_over source c.0, agrees source (λ e. cc (c.1)) ∙ c.1)
     cause_over (answers.ReadFault source) calm c = absurd (calm source refl)
     cause_over (answers.TooLong source) calm c =
         let long = c.1 in
         (comes_over source c.0, (long.0, agrees source (λ e. cc (long.1)) ∙ long.1, long.2))
-    cause_over answers.NotBuilt calm (inl c) = inl (held_over sources.Program _ c)
-    cause_over answers.NotBuilt calm (inr c) = inr (c.0, held_over sources.Program _ c.1, held_over sources.Input _ c.2)
+    cause_over answers.NotBuilt calm (inl c) = inl (as_planned c)
+    cause_over answers.NotBuilt calm (inr (inl c)) = inr (inl (read_over sources.Program c.0, held_over sources.Program _ c.1))
+    cause_over answers.NotBuilt calm (inr (inr c)) = inr (inr (read_over sources.Input c.0, c.1, held_over sources.Program _ c.2, held_over sources.Input _ c.3))
+    cause_over (answers.CasmRefused fault) calm c = (read_over sources.Casm c.0, held_over sources.Casm _ c.1)
     cause_over (answers.NotEnoughGas need given) calm c =
-        (c.0, c.1, held_over sources.Program _ c.2, held_over sources.Input _ c.3, c.4, c.5, c.6)
+        (read_over sources.Input c.0, c.1, c.2, held_over sources.Program _ c.3, held_over sources.Input _ c.4, c.5, c.6, c.7)
     cause_over (answers.RunRefused refusal) calm c = (comes_over sources.Run c.0, held_over sources.Run _ c.1)
-    cause_over (answers.RunRejected fault) calm c = (c.0, c.1, c.2, can_over c.0 c.1 c.3, held_over sources.Run _ c.4, c.5)
-    cause_over (answers.Judged verdict) calm c = (c.0, c.1, c.2, can_over c.0 c.1 c.3, held_over sources.Run _ c.4, c.5, c.6)
+    cause_over (answers.RunRejected fault) calm c = (read_over sources.Run c.0, c.1, c.2, c.3, can_over c.1 c.2 c.4, held_over sources.Run _ c.5, c.6)
+    cause_over (answers.Judged verdict) calm c = (read_over sources.Run c.0, c.1, c.2, c.3, can_over c.1 c.2 c.4, held_over sources.Run _ c.5, c.6, c.7)
+    cause_over (answers.Ran file) calm c = let run = as_run c.0 c.1 in (run.0, run.1, c.2, c.3, can_over c.2 c.3 c.4, c.5)
+    cause_over (answers.Assembled code) calm c = (read_over sources.Casm c.0, held_over sources.Casm _ c.1)
 
--- the same arguments are commands that read the same
+-- the same arguments are one kind of command, with the same names
+pub record Alike (command other : Command) : Type 0 where
+  pub names : (source : Source) → name_of (Some command) source ≡ name_of (Some other) source
+  pub planned : command ≡ commands.Planned → other ≡ commands.Planned
+  pub run : (execute : Execute) → command ≡ commands.Run execute → (another : Execute) × (other ≡ commands.Run another)
+
+-- the first argument is one word
+two_words : (word one other : List ℕ) (others more : List (List ℕ)) → word ∷ others ≡ one ∷ more → word ≡ other → bytes_eq one other ≡ false → ⊥
+two_words word one other others more is other_is differ =
+    let same : one ≡ other = sym (ap (λ xs. get_or xs 0 []) is) ∙ other_is in
+    clash (sym ((bytes_eq-Decides one other).1 same) ∙ differ)
+  where
+    clash : true ≡ false → ⊥
+    clash e = absurd cc
+
+-- a command that is built isn't one that is planned
+built_not_planned : (arguments : List (List ℕ)) (command : Command) → command ≢ commands.Planned → IsCommand arguments command → IsPlanned arguments → ⊥
+built_not_planned [] command built is planned = planned
+built_not_planned (word ∷ others) (commands.Check check) built is (inl p) = two_words word (codes "check") (codes "compile") others _ is p.0 refl
+built_not_planned (word ∷ others) (commands.Check check) built is (inr (inl p)) = two_words word (codes "check") (codes "gas") others _ is p.0 refl
+built_not_planned (word ∷ others) (commands.Check check) built is (inr (inr (inl p))) = two_words word (codes "check") (codes "show") others _ is p.0 refl
+built_not_planned (word ∷ others) (commands.Check check) built is (inr (inr (inr (inl p)))) = two_words word (codes "check") (codes "eval") others _ is p.0 refl
+built_not_planned (word ∷ others) (commands.Check check) built is (inr (inr (inr (inr (inl p))))) = two_words word (codes "check") (codes "run") others _ is p.0 refl
+built_not_planned (word ∷ others) (commands.Check check) built is (inr (inr (inr (inr (inr p))))) = two_words word (codes "check") (codes "make") others _ is p.0 refl
+built_not_planned (word ∷ others) (commands.Run execute) built is (inl p) = two_words word (codes "run") (codes "compile") others _ is p.0 refl
+built_not_planned (word ∷ others) (commands.Run execute) built is (inr (inl p)) = two_words word (codes "run") (codes "gas") others _ is p.0 refl
+built_not_planned (word ∷ others) (commands.Run execute) built is (inr (inr (inl p))) = two_words word (codes "run") (codes "show") others _ is p.0 refl
+built_not_planned (word ∷ others) (commands.Run execute) built is (inr (inr (inr (inl p)))) = two_words word (codes "run") (codes "eval") others _ is p.0 refl
+built_not_planned (word ∷ others) (commands.Run execute) built is (inr (inr (inr (inr (inl p))))) =
+    let three : length (word ∷ others) ≡ 3 = ap length is in absurd (omega (arith, p.1, three))
+built_not_planned (word ∷ others) (commands.Run execute) built is (inr (inr (inr (inr (inr p))))) = two_words word (codes "run") (codes "make") others _ is p.0 refl
+built_not_planned (word ∷ others) (commands.Asm assemble) built is (inl p) = two_words word (codes "asm") (codes "compile") others _ is p.0 refl
+built_not_planned (word ∷ others) (commands.Asm assemble) built is (inr (inl p)) = two_words word (codes "asm") (codes "gas") others _ is p.0 refl
+built_not_planned (word ∷ others) (commands.Asm assemble) built is (inr (inr (inl p))) = two_words word (codes "asm") (codes "show") others _ is p.0 refl
+built_not_planned (word ∷ others) (commands.Asm assemble) built is (inr (inr (inr (inl p)))) = two_words word (codes "asm") (codes "eval") others _ is p.0 refl
+built_not_planned (word ∷ others) (commands.Asm assemble) built is (inr (inr (inr (inr (inl p))))) = two_words word (codes "asm") (codes "run") others _ is p.0 refl
+built_not_planned (word ∷ others) (commands.Asm assemble) built is (inr (inr (inr (inr (inr p))))) = two_words word (codes "asm") (codes "make") others _ is p.0 refl
+built_not_planned (word ∷ others) commands.Planned built is p = built refl
+
+pub alike : (arguments : List (List ℕ)) (command other : Command) → IsCommand arguments command → IsCommand arguments other → Alike command other
+alike arguments (commands.Check check) (commands.Check other) p q = record { names = names; planned = λ e. absurd cc; run = λ execute e. absurd cc }
+  where
+    names : (source : Source) → name_of (Some (commands.Check check)) source ≡ name_of (Some (commands.Check other)) source
+    names sources.Program = cc
+    names sources.Input = cc
+    names sources.Run = cc
+    names sources.Casm = refl
+alike arguments (commands.Run execute) (commands.Run other) p q = record { names = names; planned = λ e. absurd cc; run = λ execute e. (other, refl) }
+  where
+    names : (source : Source) → name_of (Some (commands.Run execute)) source ≡ name_of (Some (commands.Run other)) source
+    names sources.Program = cc
+    names sources.Input = cc
+    names sources.Run = refl
+    names sources.Casm = refl
+alike arguments (commands.Asm assemble) (commands.Asm other) p q = record { names = names; planned = λ e. absurd cc; run = λ execute e. absurd cc }
+  where
+    names : (source : Source) → name_of (Some (commands.Asm assemble)) source ≡ name_of (Some (commands.Asm other)) source
+    names sources.Program = refl
+    names sources.Input = refl
+    names sources.Run = refl
+    names sources.Casm = cc
+alike arguments commands.Planned commands.Planned p q = record { names = λ source. refl; planned = λ e. refl; run = λ execute e. absurd cc }
+alike arguments commands.Planned (commands.Check check) p q = absurd (built_not_planned arguments (commands.Check check) (λ e. cc) q p)
+alike arguments commands.Planned (commands.Run execute) p q = absurd (built_not_planned arguments (commands.Run execute) (λ e. cc) q p)
+alike arguments commands.Planned (commands.Asm assemble) p q = absurd (built_not_planned arguments (commands.Asm assemble) (λ e. cc) q p)
+alike arguments (commands.Check check) commands.Planned p q = absurd (built_not_planned arguments (commands.Check check) (λ e. cc) p q)
+alike arguments (commands.Run execute) commands.Planned p q = absurd (built_not_planned arguments (commands.Run execute) (λ e. cc) p q)
+alike arguments (commands.Asm assemble) commands.Planned p q = absurd (built_not_planned arguments (commands.Asm assemble) (λ e. cc) p q)
+alike arguments (commands.Check check) (commands.Run execute) p q = absurd cc
+alike arguments (commands.Check check) (commands.Asm assemble) p q = absurd cc
+alike arguments (commands.Run execute) (commands.Check check) p q = absurd cc
+alike arguments (commands.Run execute) (commands.Asm assemble) p q = absurd cc
+alike arguments (commands.Asm assemble) (commands.Check check) p q = absurd cc
+alike arguments (commands.Asm assemble) (commands.Run execute) p q = absurd cc
+
 same_names : (arguments : List (List ℕ)) (command other : Option Command) → Parses arguments command → Parses arguments other → (source : Source) → name_of command source ≡ name_of other source
 same_names arguments None None p q source = refl
 same_names arguments None (Some other) p q source = absurd (p other q)
 same_names arguments (Some command) None p q source = absurd (q command p)
-same_names arguments (Some (commands.Check check)) (Some (commands.Check other)) p q sources.Program = cc
-same_names arguments (Some (commands.Check check)) (Some (commands.Check other)) p q sources.Input = cc
-same_names arguments (Some (commands.Check check)) (Some (commands.Check other)) p q sources.Run = cc
+same_names arguments (Some command) (Some other) p q source = (alike arguments command other p q).names source
 
 same_cause : (arguments : List (List ℕ)) (command other : Option Command) (readings others : SourceReadings) (answer : Answer) → Parses arguments command → Parses arguments other → Agrees readings others → ((source : Source) → answer ≢ answers.ReadFault source) → Cause command readings answer → Cause other others answer
 same_cause arguments None None readings others answer p q agrees calm c = c
 same_cause arguments None (Some other) readings others answer p q agrees calm c = absurd (p other q)
 same_cause arguments (Some command) None readings others answer p q agrees calm c = absurd (q command p)
 same_cause arguments (Some command) (Some other) readings others answer p q agrees calm c =
-    cause_over command other readings others (same_names arguments (Some command) (Some other) p q) agrees answer calm c
+    let same = alike arguments command other p q in
+    cause_over command other readings others same.names same.planned same.run agrees answer calm c
+
+-- arguments that are a run are no other command, and no run of other names
+pub run_alone : (arguments : List (List ℕ)) (command : Option Command) (execute : Execute) → Parses arguments command → IsCommand arguments (commands.Run execute) → (another : Execute) × (command ≡ Some (commands.Run another)) × IsCommand arguments (commands.Run another)
+run_alone arguments None execute p q = absurd (p (commands.Run execute) q)
+run_alone arguments (Some command) execute p q =
+    let run = (alike arguments (commands.Run execute) command q p).run execute refl in
+    (run.0, ap Some run.1, subst (λ (c : Command). IsCommand arguments c) run.1 p)
 
 -- ---- What a known map gives
 
@@ -100,31 +195,68 @@ known_agrees : (arguments : List (List ℕ)) (files : FileMap) (command other : 
 known_agrees arguments files command other readings p q given source read =
     ap (λ name. reading_of (option_and_then (get files) name)) (sym (same_names arguments command other p q source)) ∙ of_name files (name_of command source) (readings source) (given source) read
 
--- ---- Accepted and rejected runs
+-- ---- Which answers have a status
 
--- an answer of status 0 has an accepted run, ..
-zero_accepted : (command : Option Command) (readings : SourceReadings) (answer : Answer) → status_of answer ≡ 0 → Cause command readings answer → HasRunThat readings IsAccepted
-zero_accepted None readings answer e c = let nine : status_of answer ≡ 9 = ap status_of c in absurd (omega (arith, e, nine))
-zero_accepted (Some command) readings (answers.Judged verdict) e c = (c.0, c.1, c.2, c.3, c.4, c.5)
-zero_accepted (Some command) readings (answers.Missing source) e c = absurd (omega (arith, e))
-zero_accepted (Some command) readings (answers.ReadFault source) e c = absurd (omega (arith, e))
-zero_accepted (Some command) readings (answers.TooLong source) e c = absurd (omega (arith, e))
-zero_accepted (Some command) readings answers.NotBuilt e c = absurd (omega (arith, e))
-zero_accepted (Some command) readings (answers.NotEnoughGas need given) e c = absurd (omega (arith, e))
-zero_accepted (Some command) readings (answers.RunRefused refusal) e c = absurd (omega (arith, e))
-zero_accepted (Some command) readings (answers.RunRejected fault) e c = absurd (omega (arith, e))
+-- an answer of status 0 to a check has an accepted run, ..
+zero_accepted : (check : Check) (readings : SourceReadings) (answer : Answer) → status_of answer ≡ 0 → Cause (Some (commands.Check check)) readings answer → HasRunThat readings IsAccepted
+zero_accepted check readings (answers.Judged verdict) e c = (c.1, c.2, c.3, c.4, c.5, c.6)
+zero_accepted check readings (answers.Ran file) e c = absurd (cc (c.1))
+zero_accepted check readings (answers.Assembled code) e c = absurd (cc (c.0))
+zero_accepted check readings answers.Usage e c = absurd c
+zero_accepted check readings (answers.Missing source) e c = absurd (omega (arith, e))
+zero_accepted check readings (answers.ReadFault source) e c = absurd (omega (arith, e))
+zero_accepted check readings (answers.TooLong source) e c = absurd (omega (arith, e))
+zero_accepted check readings answers.NotBuilt e c = absurd (omega (arith, e))
+zero_accepted check readings (answers.CasmRefused fault) e c = absurd (omega (arith, e))
+zero_accepted check readings (answers.NotEnoughGas need given) e c = absurd (omega (arith, e))
+zero_accepted check readings (answers.RunRefused refusal) e c = absurd (omega (arith, e))
+zero_accepted check readings (answers.RunRejected fault) e c = absurd (omega (arith, e))
 
--- .. and of status 15 one that isn't accepted
-fifteen_rejected : (command : Option Command) (readings : SourceReadings) (answer : Answer) → status_of answer ≡ 15 → Cause command readings answer → HasRunThat readings (λ program input run. IsAccepted program input run → ⊥)
-fifteen_rejected None readings answer e c = let nine : status_of answer ≡ 9 = ap status_of c in absurd (omega (arith, e, nine))
-fifteen_rejected (Some command) readings (answers.RunRejected fault) e c = (c.0, c.1, c.2, c.3, c.4, never_accepted c.0 c.1 c.2 fault c.5)
-fifteen_rejected (Some command) readings (answers.Judged verdict) e c = absurd (omega (arith, e))
-fifteen_rejected (Some command) readings (answers.Missing source) e c = absurd (omega (arith, e))
-fifteen_rejected (Some command) readings (answers.ReadFault source) e c = absurd (omega (arith, e))
-fifteen_rejected (Some command) readings (answers.TooLong source) e c = absurd (omega (arith, e))
-fifteen_rejected (Some command) readings answers.NotBuilt e c = absurd (omega (arith, e))
-fifteen_rejected (Some command) readings (answers.NotEnoughGas need given) e c = absurd (omega (arith, e))
-fifteen_rejected (Some command) readings (answers.RunRefused refusal) e c = absurd (omega (arith, e))
+-- .. to `run` a program and an input that can be run, and the honest run's file, ..
+pub zero_ran : (execute : Execute) (readings : SourceReadings) (answer : Answer) → status_of answer ≡ 0 → Cause (Some (commands.Run execute)) readings answer
+    → (file : List ℕ) × (answer ≡ answers.Ran file) × (program : Program) × (input : Input) × CanRun readings program input × (file ≡ spelling (honest_run program input))
+zero_ran execute readings (answers.Judged verdict) e c = absurd (cc (c.0))
+zero_ran execute readings (answers.Ran file) e c = (file, refl, c.2, c.3, c.4, c.5)
+zero_ran execute readings (answers.Assembled code) e c = absurd (cc (c.0))
+zero_ran execute readings answers.Usage e c = absurd c
+zero_ran execute readings (answers.Missing source) e c = absurd (omega (arith, e))
+zero_ran execute readings (answers.ReadFault source) e c = absurd (omega (arith, e))
+zero_ran execute readings (answers.TooLong source) e c = absurd (omega (arith, e))
+zero_ran execute readings answers.NotBuilt e c = absurd (omega (arith, e))
+zero_ran execute readings (answers.CasmRefused fault) e c = absurd (omega (arith, e))
+zero_ran execute readings (answers.NotEnoughGas need given) e c = absurd (omega (arith, e))
+zero_ran execute readings (answers.RunRefused refusal) e c = absurd (omega (arith, e))
+zero_ran execute readings (answers.RunRejected fault) e c = absurd (omega (arith, e))
+
+-- .. and to `asm` code
+zero_assembled : (assemble : Assemble) (readings : SourceReadings) (answer : Answer) → status_of answer ≡ 0 → Cause (Some (commands.Asm assemble)) readings answer → HasCasm readings
+zero_assembled assemble readings (answers.Judged verdict) e c = absurd (cc (c.0))
+zero_assembled assemble readings (answers.Ran file) e c = absurd (cc (c.1))
+zero_assembled assemble readings (answers.Assembled code) e c = (code, c.1)
+zero_assembled assemble readings answers.Usage e c = absurd c
+zero_assembled assemble readings (answers.Missing source) e c = absurd (omega (arith, e))
+zero_assembled assemble readings (answers.ReadFault source) e c = absurd (omega (arith, e))
+zero_assembled assemble readings (answers.TooLong source) e c = absurd (omega (arith, e))
+zero_assembled assemble readings answers.NotBuilt e c = absurd (omega (arith, e))
+zero_assembled assemble readings (answers.CasmRefused fault) e c = absurd (omega (arith, e))
+zero_assembled assemble readings (answers.NotEnoughGas need given) e c = absurd (omega (arith, e))
+zero_assembled assemble readings (answers.RunRefused refusal) e c = absurd (omega (arith, e))
+zero_assembled assemble readings (answers.RunRejected fault) e c = absurd (omega (arith, e))
+
+-- an answer of status 15 has a run that isn't accepted
+fifteen_rejected : (command : Command) (readings : SourceReadings) (answer : Answer) → status_of answer ≡ 15 → Cause (Some command) readings answer → HasRunThat readings (λ program input run. IsAccepted program input run → ⊥)
+fifteen_rejected command readings (answers.RunRejected fault) e c = (c.1, c.2, c.3, c.4, c.5, never_accepted c.1 c.2 c.3 fault c.6)
+fifteen_rejected command readings (answers.Judged verdict) e c = absurd (omega (arith, e))
+fifteen_rejected command readings (answers.Ran file) e c = absurd (omega (arith, e))
+fifteen_rejected command readings (answers.Assembled code) e c = absurd (omega (arith, e))
+fifteen_rejected command readings answers.Usage e c = absurd c
+fifteen_rejected command readings (answers.Missing source) e c = absurd (omega (arith, e))
+fifteen_rejected command readings (answers.ReadFault source) e c = absurd (omega (arith, e))
+fifteen_rejected command readings (answers.TooLong source) e c = absurd (omega (arith, e))
+fifteen_rejected command readings answers.NotBuilt e c = absurd (omega (arith, e))
+fifteen_rejected command readings (answers.CasmRefused fault) e c = absurd (omega (arith, e))
+fifteen_rejected command readings (answers.NotEnoughGas need given) e c = absurd (omega (arith, e))
+fifteen_rejected command readings (answers.RunRefused refusal) e c = absurd (omega (arith, e))
 
 abbrev HasAnswer : Option Command → SourceReadings → ℕ → Type 0
 HasAnswer command readings k = (answer : Answer) × (status_of answer ≡ k) × Cause command readings answer
@@ -133,32 +265,49 @@ HasAnswer command readings k = (answer : Answer) × (status_of answer ≡ k) × 
 accepted_zero : (check : Check) (readings : SourceReadings) → HasRunThat readings IsAccepted → HasAnswer (Some (commands.Check check)) readings 0
 accepted_zero check readings (program, input, run, can, has, accepted) =
     let verdict = some_verdict program input run can.gas accepted in
-    (answers.Judged verdict.0, refl, (program, input, run, can, has, accepted, verdict.1))
+    (answers.Judged verdict.0, refl, (refl, program, input, run, can, has, accepted, verdict.1))
 
--- .. and one that isn't accepted of status 15
+-- .. one that isn't accepted of status 15, ..
 rejected_fifteen : (check : Check) (readings : SourceReadings) → HasRunThat readings (λ program input run. IsAccepted program input run → ⊥) → HasAnswer (Some (commands.Check check)) readings 15
 rejected_fifteen check readings (program, input, run, can, has, refused) =
     let fits : input.argument < modulus = can.input_read.3.argument_below in
     elim (accepted_or_rejected (code_of program) input.argument run.rc (get run.memory) run.states has.3.0.state_count fits) [
       | inl accepted ↦ absurd (refused accepted)
-      | inr rejected ↦ (answers.RunRejected rejected.0, refl, (program, input, run, can, has, rejected.1))
+      | inr rejected ↦ (answers.RunRejected rejected.0, refl, (refl, program, input, run, can, has, rejected.1))
     ]
+
+-- .. a program and an input that can be run of status 0, ..
+start_zero : (execute : Execute) (readings : SourceReadings) → HasStart readings → HasAnswer (Some (commands.Run execute)) readings 0
+start_zero execute readings (program, input, can) = (answers.Ran (spelling (honest_run program input)), refl, (execute, refl, program, input, can, refl))
+
+-- .. and so has code
+casm_zero : (assemble : Assemble) (readings : SourceReadings) → HasCasm readings → HasAnswer (Some (commands.Asm assemble)) readings 0
+casm_zero assemble readings (code, held) = (answers.Assembled code, refl, (refl, held))
 
 -- ---- The status
 
--- each status by its answers, and so the two of a run
+-- each status by its answers, and so those of a run and of code
 by_answers : (files : FileMap) (command : Option Command) (status : ℕ) → ((k : ℕ) → (status ≡ k) ↔ HasAnswer command (readings_of files command) k) → HasExactStatus files command status
 by_answers files command status each =
     let readings = readings_of files command in
+    let of_command : (other : Command) (k : ℕ) → command ≡ Some other → HasAnswer command readings k → HasAnswer (Some other) readings k = λ other k is. subst (λ (c : Option Command). HasAnswer c readings k) is in
     record {
       each = each;
       accepted = λ check is. (
-        λ e. let h = (each 0).0 e in zero_accepted command readings h.0 h.1 h.2,
+        λ e. let h = of_command (commands.Check check) 0 is ((each 0).0 e) in zero_accepted check readings h.0 h.1 h.2,
         λ h. (each 0).1 (subst (λ (c : Option Command). HasAnswer c readings 0) (sym is) (accepted_zero check readings h)),
       );
       rejected = λ check is. (
-        λ e. let h = (each 15).0 e in fifteen_rejected command readings h.0 h.1 h.2,
+        λ e. let h = of_command (commands.Check check) 15 is ((each 15).0 e) in fifteen_rejected (commands.Check check) readings h.0 h.1 h.2,
         λ h. (each 15).1 (subst (λ (c : Option Command). HasAnswer c readings 15) (sym is) (rejected_fifteen check readings h)),
+      );
+      ran = λ execute is. (
+        λ e. let h = of_command (commands.Run execute) 0 is ((each 0).0 e) in let ran = zero_ran execute readings h.0 h.1 h.2 in (ran.2, ran.3, ran.4),
+        λ h. (each 0).1 (subst (λ (c : Option Command). HasAnswer c readings 0) (sym is) (start_zero execute readings h)),
+      );
+      assembled = λ assemble is. (
+        λ e. let h = of_command (commands.Asm assemble) 0 is ((each 0).0 e) in zero_assembled assemble readings h.0 h.1 h.2,
+        λ h. (each 0).1 (subst (λ (c : Option Command). HasAnswer c readings 0) (sym is) (casm_zero assemble readings h)),
       );
     }
 

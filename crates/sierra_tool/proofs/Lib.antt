@@ -1,12 +1,9 @@
-pub mod AcceptedLaws
+pub mod Assembling
 pub mod Causes
+pub mod Checking
 pub mod CommandLaws
-pub mod DecidedRuns
 pub mod Exact
-pub mod FormLaws
-pub mod HonestLaws
-pub mod RejectedLaws
-pub mod Soundness
+pub mod Headline
 pub mod Stages
-pub mod ValueLaws
-pub mod VerdictLaws
+pub mod Starting
+pub mod WordLines

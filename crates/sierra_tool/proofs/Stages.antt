@@ -1,6 +1,7 @@
 -- The parts of a command's work, put together: what the sources gave, and what that causes.
-use Rattle.std.proofs.Common.{◌≡◌, ◌≢◌, ℕ, ◌+◌, ◌<◌, ◌≤◌, List, length, Option, Some, None, Result, Ok, Err, refl, sym, subst, inl, inr, ◌⊎◌, replicate, arith}
-use Rattle.std.specs.Prelude.{MatchOption, IsErrAnd}
+use Rattle.std.proofs.Common.{◌≡◌, ◌≢◌, ℕ, ◌+◌, ◌<◌, ◌≤◌, List, [], length, Option, Some, None, Result, Ok, Err, refl, sym, ap, subst, inl, inr, ◌⊎◌, replicate, arith}
+use Rattle.std.specs.Prelude.{MatchOption, IsErrAnd, IsSome}
+use Rattle.std.specs.Option.{unwrap_or}
 use Rattle.std.specs.Global.{Vec}
 use Rattle.std.specs.FinMap.{get}
 use Rattle.std.proofs.Math.ListN.{length-replicate}
@@ -15,19 +16,18 @@ use Rattle.sierra_tool.specs.declared.answer.Answer.{Answer}
 use Rattle.sierra_tool.specs.declared.answer.Answer.TheVariants as answers
 use Rattle.sierra_tool.specs.declared.answer.Stop.{Stop}
 use Rattle.sierra_tool.specs.declared.answer.Stop.TheVariants as stops
-use Rattle.sierra_tool.specs.declared.command.Check.{Check}
 use Rattle.sierra_tool.specs.declared.command.Command.{Command}
 use Rattle.sierra_tool.specs.declared.command.Command.TheVariants as commands
 use Rattle.sierra_tool.specs.declared.command.Source.{Source}
 use Rattle.sierra_tool.specs.declared.command.Source.TheVariants as sources
-use Rattle.sierra_tool.specs.declared.program.Program.{Program}
-use Rattle.sierra_tool.specs.declared.input.Input.{Input}
-use Rattle.sierra_tool.specs.Causes.{Reading, absent, unread, found, SourceReadings, Gives, AreReadings, Holds, IsTooLong, IsRunFile, CanRun, ComesTo, Cause}
-use Rattle.sierra_tool.specs.Command.{limit}
+use Rattle.first_form.specs.declared.program.Program.{Program}
+use Rattle.first_form.specs.declared.input.Input.{Input}
+use Rattle.sierra_tool.specs.Causes.{Reading, absent, unread, found, SourceReadings, Gives, AreReadings, Holds, IsTooLong, HasProgram, CanRun, ComesTo, Cause}
+use Rattle.sierra_tool.specs.Command.{limit, name_of, first_name, first_source, IsRead}
 use Rattle.sierra_tool.specs.Exact.{reading_of}
-use Rattle.sierra_tool.specs.Forms.{IsProgram, IsInput}
-use Rattle.sierra_tool.specs.Meaning.{entry_gas}
-use Rattle.sierra_tool.specs.Stages.{Stops, IsUnfit, IsRefused, NoProgram, NoInput, NoRun, ReadsSource, IsCaused, Works, IsNotMissing, IsDelivered, OfRun}
+use Rattle.first_form.specs.Forms.{IsProgram, IsInput}
+use Rattle.first_form.specs.Meaning.{entry_gas}
+use Rattle.sierra_tool.specs.Stages.{Stops, IsUnfit, IsRefused, ReadsSource, Reaches, IsCaused, IsNotMissing, IsDelivered}
 use Rattle.sierra_tool.specs.Tool.{IsCounted, MayHaveFirst, IsOutOfMemory, IsAnswered}
 use Rattle.sierra_tool.proofs.Causes.{one_answer}
 
@@ -101,157 +101,156 @@ uncounted a b answer not_missing not_failed =
 
 -- ---- The cause of each refusal
 
-unfit_cause : (command : Command) (readings : SourceReadings) (source : Source) (answer : Answer) → ComesTo command readings source → IsUnfit source (readings source) answer → Cause (Some command) readings answer
+pub unfit_cause : (command : Command) (readings : SourceReadings) (source : Source) (answer : Answer) → ComesTo command readings source → IsUnfit source (readings source) answer → Cause (Some command) readings answer
 unfit_cause command readings source answer comes (inl unfit) = subst (Cause (Some command) readings) (sym unfit.1) (comes, unfit.0)
 unfit_cause command readings source answer comes (inr (inl unfit)) = subst (Cause (Some command) readings) (sym unfit.1) (comes, unfit.0)
 unfit_cause command readings source answer comes (inr (inr unfit)) = subst (Cause (Some command) readings) (sym unfit.1) (comes, unfit.0)
 
--- ---- A check
+-- ---- One source after another
 
--- what its sources gave
-abbrev of_three : Reading → Reading → Reading → SourceReadings
-of_three program input run sources.Program = program
-of_three program input run sources.Input = input
-of_three program input run sources.Run = run
+-- what the sources gave, with this reading of one of them
+abbrev pub put : Source → Reading → SourceReadings → SourceReadings
+put sources.Program given readings sources.Program = given
+put sources.Program given readings sources.Input = readings sources.Input
+put sources.Program given readings sources.Run = readings sources.Run
+put sources.Program given readings sources.Casm = readings sources.Casm
+put sources.Input given readings sources.Program = readings sources.Program
+put sources.Input given readings sources.Input = given
+put sources.Input given readings sources.Run = readings sources.Run
+put sources.Input given readings sources.Casm = readings sources.Casm
+put sources.Run given readings sources.Program = readings sources.Program
+put sources.Run given readings sources.Input = readings sources.Input
+put sources.Run given readings sources.Run = given
+put sources.Run given readings sources.Casm = readings sources.Casm
+put sources.Casm given readings sources.Program = readings sources.Program
+put sources.Casm given readings sources.Input = readings sources.Input
+put sources.Casm given readings sources.Run = readings sources.Run
+put sources.Casm given readings sources.Casm = given
 
-are_given : (known : Option FileMap) (check : Check) (program input run : Reading) → Gives known check.program.now program → Gives known check.input.now input → Gives known check.run.now run → AreReadings known (Some (commands.Check check)) (of_three program input run)
-are_given known check program input run p i r sources.Program = p
-are_given known check program input run p i r sources.Input = i
-are_given known check program input run p i r sources.Run = r
+abbrev MayGive : Option FileMap → Option Command → Source → Reading → Type 0
+MayGive known command source given = MatchOption (name_of command source) (given ≡ absent) (λ name. Gives known name given)
 
-on_stop : (P Q : Answer → Type 0) (M N : Type 0) → ((answer : Answer) → P answer → Q answer) → (M → N) → (stop : Stop) → Stops P M stop → Stops Q N stop
-on_stop P Q M N refused out_of_memory (stops.Refused answer) h = refused answer h
-on_stop P Q M N refused out_of_memory stops.OutOfMemory h = out_of_memory h
+put_given : (known : Option FileMap) (command : Option Command) (source : Source) (given : Reading) (readings : SourceReadings) → MayGive known command source given → AreReadings known command readings → AreReadings known command (put source given readings)
+put_given known command sources.Program given readings here others sources.Program = here
+put_given known command sources.Program given readings here others sources.Input = others sources.Input
+put_given known command sources.Program given readings here others sources.Run = others sources.Run
+put_given known command sources.Program given readings here others sources.Casm = others sources.Casm
+put_given known command sources.Input given readings here others sources.Program = others sources.Program
+put_given known command sources.Input given readings here others sources.Input = here
+put_given known command sources.Input given readings here others sources.Run = others sources.Run
+put_given known command sources.Input given readings here others sources.Casm = others sources.Casm
+put_given known command sources.Run given readings here others sources.Program = others sources.Program
+put_given known command sources.Run given readings here others sources.Input = others sources.Input
+put_given known command sources.Run given readings here others sources.Run = here
+put_given known command sources.Run given readings here others sources.Casm = others sources.Casm
+put_given known command sources.Casm given readings here others sources.Program = others sources.Program
+put_given known command sources.Casm given readings here others sources.Input = others sources.Input
+put_given known command sources.Casm given readings here others sources.Run = others sources.Run
+put_given known command sources.Casm given readings here others sources.Casm = here
 
-abbrev pub TakesProgram : Reading → Program → Type 0
-TakesProgram given program = Holds sources.Program given (λ text. IsProgram text program)
+named_gives : (known : Option FileMap) (command : Option Command) (source : Source) (name : List ℕ) (given : Reading) → name_of command source ≡ Some name → Gives known name given → MayGive known command source given
+named_gives known command source name given is gives = rw is gives
 
-abbrev pub TakesInput : Program → Reading → Input → Type 0
-TakesInput program given input = Holds sources.Input given (λ text. IsInput program text input)
+-- what the sources of a command can give before any is read
+pub unasked : Option FileMap → Option Command → SourceReadings
+unasked known command source = of_name (name_of command source)
+  where
+    of_name : Option (List ℕ) → Reading
+    of_name None = absent
+    of_name (Some name) = usual known name
 
-abbrev pub TakesRun : Reading → Run → Type 0
-TakesRun given run = Holds sources.Run given (λ bytes. IsRunFile bytes run)
+pub unasked_given : (known : Option FileMap) (command : Option Command) → AreReadings known command (unasked known command)
+unfolding unasked
+unasked_given known command source = of_name (name_of command source) refl
+  where
+    of_name : (name : Option (List ℕ)) → name_of command source ≡ name → MayGive known command source (unasked known command source)
+    of_name None is = rw is refl
+    of_name (Some name) is = rw is (usual_gives known name)
 
--- it stops at the program, ..
-pub stops_at_program : (check : Check) (before now : FilesView) (stop : Stop) → ReadsSource before now check.program.now TakesProgram (IsRefused sources.Program NoProgram) (Err stop) → Works before now (Some (commands.Check check)) (Err stop)
-stops_at_program check before now stop part =
-    let known = before.contents in
-    let input = usual known check.input.now in
-    let run = usual known check.run.now in
-    let readings = of_three part.reading input run in
-    let command : Command = commands.Check check in
-    let caused : (answer : Answer) → IsRefused sources.Program NoProgram part.reading answer → Cause (Some command) readings answer = λ answer refused. elim refused [
-      | inl unfit ↦ unfit_cause command readings sources.Program answer refl unfit
-      | inr held ↦ subst (Cause (Some command) readings) (sym held.3.1) (inl (held.0, held.1, held.2, held.3.0))
-    ] in
-    record {
-      keeps = part.keeps;
-      readings = readings;
-      given = are_given known check part.reading input run part.given (usual_gives known check.input.now) (usual_gives known check.run.now);
-      outcome = on_stop (λ answer. IsRefused sources.Program NoProgram part.reading answer × IsCounted before now answer) (IsCaused before now (Some command) readings) (part.reading ≢ absent) (MayHaveFirst known (Some command))
-          (λ answer refused. (caused answer refused.0, refused.1)) (may_be_there known check.program.now part.reading part.given) stop part.outcome;
-    }
+-- the name of a source that is read
+pub read_name : (command : Command) (source : Source) (name : List ℕ) → IsRead command source → name ≡ unwrap_or (name_of (Some command) source) [] → name_of (Some command) source ≡ Some name
+read_name command source name reads is = of_name (name_of (Some command) source) reads is
+  where
+    of_name : (found : Option (List ℕ)) → IsSome found → name ≡ unwrap_or found [] → found ≡ Some name
+    of_name None reads is = absurd cc
+    of_name (Some other) reads is = ap Some (sym is)
 
--- .. at the input, ..
-pub stops_at_input : (check : Check) (before middle now : FilesView) (program : Program) (stop : Stop) → ReadsSource before middle check.program.now TakesProgram (IsRefused sources.Program NoProgram) (Ok program) → ReadsSource middle now check.input.now (TakesInput program) (IsRefused sources.Input (NoInput program)) (Err stop) → Works before now (Some (commands.Check check)) (Err stop)
-stops_at_input check before middle now program stop first part =
-    let known = before.contents in
-    let run = usual known check.run.now in
-    let readings = of_three first.reading part.reading run in
-    let command : Command = commands.Check check in
-    let gives = subst (λ contents. Gives contents check.input.now part.reading) first.keeps.contents part.given in
-    let caused : (answer : Answer) → IsRefused sources.Input (NoInput program) part.reading answer → Cause (Some command) readings answer = λ answer refused. elim refused [
-      | inl unfit ↦ unfit_cause command readings sources.Input answer (refl, program, first.outcome) unfit
-      | inr held ↦ subst (Cause (Some command) readings) (sym held.3.1) (inr (program, first.outcome, (held.0, held.1, held.2, held.3.0)))
-    ] in
-    record {
-      keeps = Keeps-more before middle now first.keeps part.keeps;
-      readings = readings;
-      given = are_given known check first.reading part.reading run first.given gives (usual_gives known check.run.now);
-      outcome = on_stop (λ answer. IsRefused sources.Input (NoInput program) part.reading answer × IsCounted middle now answer) (IsCaused before now (Some command) readings) (part.reading ≢ absent) (MayHaveFirst known (Some command))
-          (λ answer refused. (caused answer refused.0, later_counted before middle now answer first.keeps refused.1))
-          (λ present. may_be_there known check.program.now first.reading first.given (held_present sources.Program first.reading (λ text. IsProgram text program) first.outcome)) stop part.outcome;
-    }
+-- the sources that were read so far, and what they gave
+pub record Progress (before now : FilesView) (command : Command) (readings : SourceReadings) : Type 0 where
+  pub keeps : Keeps before now
+  pub given : AreReadings before.contents (Some command) readings
 
--- .. for too little gas, ..
-pub stops_at_gas : (check : Check) (before middle now : FilesView) (program : Program) (input : Input) (need given : ℕ) → ReadsSource before middle check.program.now TakesProgram (IsRefused sources.Program NoProgram) (Ok program) → ReadsSource middle now check.input.now (TakesInput program) (IsRefused sources.Input (NoInput program)) (Ok input) → given < need → need ≡ entry_gas program → given ≡ input.gas → Works before now (Some (commands.Check check)) (Err (stops.Refused (answers.NotEnoughGas need given)))
-stops_at_gas check before middle now program input need given first second less need_is given_is =
-    let known = before.contents in
-    let run = usual known check.run.now in
-    record {
-      keeps = Keeps-more before middle now first.keeps second.keeps;
-      readings = of_three first.reading second.reading run;
-      given = are_given known check first.reading second.reading run first.given (subst (λ contents. Gives contents check.input.now second.reading) first.keeps.contents second.given) (usual_gives known check.run.now);
-      outcome = ((program, input, first.outcome, second.outcome, less, need_is, given_is), uncounted before now (answers.NotEnoughGas need given) (λ source e. cc) (λ source e. cc));
-    }
+-- the next source is read
+module _ (before middle now : FilesView) (command : Command) (readings : SourceReadings) (source : Source) (name : List ℕ)
+    (progress : Progress before middle command readings)
+    (is : name_of (Some command) source ≡ Some name)
+  where
+    next_given : (reading : Reading) → Gives middle.contents name reading → AreReadings before.contents (Some command) (put source reading readings)
+    next_given reading gives =
+        put_given before.contents (Some command) source reading readings
+        (named_gives before.contents (Some command) source name reading is (subst (λ contents. Gives contents name reading) progress.keeps.contents gives))
+        progress.given
 
--- .. or at the run; ..
-pub stops_at_run : (check : Check) (before middle third now : FilesView) (program : Program) (input : Input) (stop : Stop) → ReadsSource before middle check.program.now TakesProgram (IsRefused sources.Program NoProgram) (Ok program) → ReadsSource middle third check.input.now (TakesInput program) (IsRefused sources.Input (NoInput program)) (Ok input) → entry_gas program ≤ input.gas → ReadsSource third now check.run.now TakesRun (IsRefused sources.Run NoRun) (Err stop) → Works before now (Some (commands.Check check)) (Err stop)
-stops_at_run check before middle third now program input stop first second enough part =
-    let known = before.contents in
-    let keeps = Keeps-more before middle third first.keeps second.keeps in
-    let readings = of_three first.reading second.reading part.reading in
-    let command : Command = commands.Check check in
-    let can : CanRun readings program input = record { program_read = first.outcome; input_read = second.outcome; gas = enough } in
-    let caused : (answer : Answer) → IsRefused sources.Run NoRun part.reading answer → Cause (Some command) readings answer = λ answer refused. elim refused [
-      | inl unfit ↦ unfit_cause command readings sources.Run answer (refl, program, input, can) unfit
-      | inr held ↦ subst (Cause (Some command) readings) (sym held.3.2) ((refl, program, input, can), (held.0, held.1, held.2, held.3.1))
-    ] in
-    record {
-      keeps = Keeps-more before third now keeps part.keeps;
-      readings = readings;
-      given = are_given known check first.reading second.reading part.reading first.given
-          (subst (λ contents. Gives contents check.input.now second.reading) first.keeps.contents second.given)
-          (subst (λ contents. Gives contents check.run.now part.reading) keeps.contents part.given);
-      outcome = on_stop (λ answer. IsRefused sources.Run NoRun part.reading answer × IsCounted third now answer) (IsCaused before now (Some command) readings) (part.reading ≢ absent) (MayHaveFirst known (Some command))
-          (λ answer refused. (caused answer refused.0, later_counted before third now answer keeps refused.1))
-          (λ present. may_be_there known check.program.now first.reading first.given (held_present sources.Program first.reading (λ text. IsProgram text program) first.outcome)) stop part.outcome;
-    }
+    pub goes_on : {X : Type 0} (taken : Reading → X → Type 0) (refused : Reading → Answer → Type 0) (result : Result X Stop)
+        → (part : ReadsSource middle now name taken refused result) → Progress before now command (put source part.reading readings)
+    goes_on taken refused result part =
+        record { keeps = Keeps-more before middle now progress.keeps part.keeps; given = next_given part.reading part.given }
 
--- .. or memory runs out at the verdict, ..
-pub runs_out : (check : Check) (before middle third now : FilesView) (program : Program) (input : Input) (run : Run) → ReadsSource before middle check.program.now TakesProgram (IsRefused sources.Program NoProgram) (Ok program) → ReadsSource middle third check.input.now (TakesInput program) (IsRefused sources.Input (NoInput program)) (Ok input) → ReadsSource third now check.run.now TakesRun (IsRefused sources.Run NoRun) (Ok run) → Works before now (Some (commands.Check check)) (Err stops.OutOfMemory)
-runs_out check before middle third now program input run first second part =
-    let known = before.contents in
-    let keeps = Keeps-more before middle third first.keeps second.keeps in
-    record {
-      keeps = Keeps-more before third now keeps part.keeps;
-      readings = of_three first.reading second.reading part.reading;
-      given = are_given known check first.reading second.reading part.reading first.given
-          (subst (λ contents. Gives contents check.input.now second.reading) first.keeps.contents second.given)
-          (subst (λ contents. Gives contents check.run.now part.reading) keeps.contents part.given);
-      outcome = may_be_there known check.program.now first.reading first.given (held_present sources.Program first.reading (λ text. IsProgram text program) first.outcome);
-    }
+    -- .. and its refusal is the answer, or there was no memory
+    pub stops_there : {X Y : Type 0} (taken : Reading → X → Type 0) (refused : Reading → Answer → Type 0) (reached : SourceReadings → Y → Type 0) (stop : Stop)
+        → (part : ReadsSource middle now name taken refused (Err stop))
+        → ((answer : Answer) → refused part.reading answer → Cause (Some command) (put source part.reading readings) answer)
+        → (part.reading ≢ absent → MayHaveFirst before.contents (Some command))
+        → Reaches before now (Some command) reached (Err stop)
+    stops_there taken refused reached stop part cause first =
+        record {
+          keeps = Keeps-more before middle now progress.keeps part.keeps;
+          readings = put source part.reading readings;
+          given = next_given part.reading part.given;
+          outcome = by_stop stop part.outcome;
+        }
+      where
+        by_stop : (stop : Stop) → Stops (λ answer. refused part.reading answer × IsCounted middle now answer) (part.reading ≢ absent) stop → Stops (IsCaused before now (Some command) (put source part.reading readings)) (MayHaveFirst before.contents (Some command)) stop
+        by_stop (stops.Refused answer) h = (cause answer h.0, later_counted before middle now answer progress.keeps h.1)
+        by_stop stops.OutOfMemory h = first h
 
--- .. or it comes to the end
-pub ends : (check : Check) (before middle third now : FilesView) (program : Program) (input : Input) (run : Run) (answer : Answer) → ReadsSource before middle check.program.now TakesProgram (IsRefused sources.Program NoProgram) (Ok program) → ReadsSource middle third check.input.now (TakesInput program) (IsRefused sources.Input (NoInput program)) (Ok input) → entry_gas program ≤ input.gas → ReadsSource third now check.run.now TakesRun (IsRefused sources.Run NoRun) (Ok run) → OfRun program input run answer → Works before now (Some (commands.Check check)) (Ok answer)
-ends check before middle third now program input run answer first second enough part of_run =
-    let known = before.contents in
-    let keeps = Keeps-more before middle third first.keeps second.keeps in
-    let readings = of_three first.reading second.reading part.reading in
-    let command : Command = commands.Check check in
-    let can : CanRun readings program input = record { program_read = first.outcome; input_read = second.outcome; gas = enough } in
-    let caused : IsCaused before now (Some command) readings answer = elim of_run [
-      | inl rejected ↦ subst (IsCaused before now (Some command) readings) (sym rejected.2)
-          ((program, input, run, can, part.outcome, rejected.1), uncounted before now (answers.RunRejected rejected.0) (λ source e. cc) (λ source e. cc))
-      | inr judged ↦ subst (IsCaused before now (Some command) readings) (sym judged.1.2)
-          ((program, input, run, can, part.outcome, judged.0, judged.1.1), uncounted before now (answers.Judged judged.1.0) (λ source e. cc) (λ source e. cc))
-    ] in
-    record {
-      keeps = Keeps-more before third now keeps part.keeps;
-      readings = readings;
-      given = are_given known check first.reading second.reading part.reading first.given
-          (subst (λ contents. Gives contents check.input.now second.reading) first.keeps.contents second.given)
-          (subst (λ contents. Gives contents check.run.now part.reading) keeps.contents part.given);
-      outcome = caused;
-    }
+-- a part that stopped stops what it is a part of
+pub stopped : {X Y : Type 0} (before now : FilesView) (command : Command) (taken : SourceReadings → X → Type 0) (reached : SourceReadings → Y → Type 0) (stop : Stop) → Reaches before now (Some command) taken (Err stop) → Reaches before now (Some command) reached (Err stop)
+stopped before now command taken reached stop part = record { keeps = part.keeps; readings = part.readings; given = part.given; outcome = part.outcome }
+
+-- nothing was read yet
+pub begins : (before : FilesView) (command : Command) → Progress before before command (unasked before.contents (Some command))
+begins before command = record { keeps = record { contents = refl; faults = omega arith; misses = omega arith }; given = unasked_given before.contents (Some command) }
+
+-- ---- The first file
+
+-- a first source that isn't absent may be there
+pub first_present : (known : Option FileMap) (command : Command) (readings : SourceReadings) → AreReadings known (Some command) readings → IsRead command (first_source command) → readings (first_source command) ≢ absent → MayHaveFirst known (Some command)
+first_present known command readings given is present = of_name (name_of (Some command) (first_source command)) is (given (first_source command))
+  where
+    of_name : (name : Option (List ℕ)) → IsSome name → MatchOption name (readings (first_source command) ≡ absent) (λ n. Gives known n (readings (first_source command))) → MatchOption name (Some command ≢ None) (λ n. ForFile known n ⊥ (λ there. Unit {0}))
+    of_name None is gives = absurd cc
+    of_name (Some name) is gives = may_be_there known name (readings (first_source command)) gives present
+
+pub program_present : (known : Option FileMap) (command : Command) (readings : SourceReadings) → AreReadings known (Some command) readings → first_source command ≡ sources.Program → IsRead command sources.Program → readings sources.Program ≢ absent → MayHaveFirst known (Some command)
+program_present known command readings given first is present =
+    first_present known command readings given (subst (λ source. IsRead command source) (sym first) is) (subst (λ source. readings source ≢ absent) (sym first) present)
+
+pub program_read_present : (known : Option FileMap) (command : Command) (readings : SourceReadings) (program : Program) → AreReadings known (Some command) readings → first_source command ≡ sources.Program → IsRead command sources.Program → HasProgram readings program → MayHaveFirst known (Some command)
+program_read_present known command readings program given first is has =
+    program_present known command readings given first is (held_present sources.Program (readings sources.Program) (λ text. IsProgram text program) has)
 
 -- ---- An answer that was delivered
 
 -- a first file that isn't missing may be there
-pub first_may_be_there : (known : Option FileMap) (command : Command) (readings : SourceReadings) (answer : Answer) → AreReadings known (Some command) readings → Cause (Some command) readings answer → IsNotMissing answer → MayHaveFirst known (Some command)
+first_may_be_there : (known : Option FileMap) (command : Command) (readings : SourceReadings) (answer : Answer) → AreReadings known (Some command) readings → Cause (Some command) readings answer → IsNotMissing answer → MayHaveFirst known (Some command)
 first_may_be_there known (commands.Check check) readings answer given cause not_missing =
-    may_be_there known check.program.now (readings sources.Program) (given sources.Program)
-    (λ is. not_missing sources.Program (one_answer (Some (commands.Check check)) readings answer (answers.Missing sources.Program) cause (refl, is)))
+    first_present known (commands.Check check) readings given refl (λ is. not_missing sources.Program (one_answer (Some (commands.Check check)) readings answer (answers.Missing sources.Program) cause (refl, is)))
+first_may_be_there known (commands.Run execute) readings answer given cause not_missing =
+    first_present known (commands.Run execute) readings given refl (λ is. not_missing sources.Program (one_answer (Some (commands.Run execute)) readings answer (answers.Missing sources.Program) cause (refl, is)))
+first_may_be_there known (commands.Asm assemble) readings answer given cause not_missing =
+    first_present known (commands.Asm assemble) readings given refl (λ is. not_missing sources.Casm (one_answer (Some (commands.Asm assemble)) readings answer (answers.Missing sources.Casm) cause (refl, is)))
+first_may_be_there known commands.Planned readings answer given cause not_missing = λ e. cc
 
 -- what the tool did, where the answer of a command was delivered
 pub delivers_answer : (before now : FilesView) (out written : SinkView) (command : Command) (readings : SourceReadings) (answer : Answer) (status : ℕ) → AreReadings before.contents (Some command) readings → IsCaused before now (Some command) readings answer → IsDelivered out written (Some command) answer status → IsAnswered before now out written (Some command) status ⊎ IsOutOfMemory before.contents out written (Some command) status

@@ -9,15 +9,21 @@ use Rattle.run_file.specs.Spelling.{IsRun, spelling}
 use Rattle.sierra_tool.specs.declared.answer.Answer.{Answer}
 use Rattle.sierra_tool.specs.declared.answer.Answer.TheVariants as answers
 use Rattle.sierra_tool.specs.declared.command.Command.{Command}
+use Rattle.sierra_tool.specs.declared.command.Command.TheVariants as commands
+use Rattle.sierra_tool.specs.declared.command.Execute.{Execute}
 use Rattle.sierra_tool.specs.declared.command.Source.{Source}
 use Rattle.sierra_tool.specs.declared.command.Source.TheVariants as sources
-use Rattle.sierra_tool.specs.declared.program.Program.{Program}
-use Rattle.sierra_tool.specs.declared.input.Input.{Input}
+use Rattle.first_form.specs.declared.program.Program.{Program}
+use Rattle.first_form.specs.declared.input.Input.{Input}
 use Rattle.sierra_tool.specs.Command.{name_of, IsRead, limit}
-use Rattle.sierra_tool.specs.Forms.{IsProgram, IsInput}
-use Rattle.sierra_tool.specs.Meaning.{entry_gas}
-use Rattle.sierra_tool.specs.Rejected.{IsRejected}
-use Rattle.sierra_tool.specs.Runs.{IsAccepted, IsVerdict}
+use Rattle.casm_text.specs.Refusals.{IsShort, Refused}
+use Rattle.casm_text.specs.Text.{Text, standard}
+use Rattle.casm_word.specs.declared.instr.Instr.{Instr}
+use Rattle.first_form.specs.Forms.{IsProgram, IsInput}
+use Rattle.first_form.specs.Honest.{honest_run}
+use Rattle.first_form.specs.Meaning.{entry_gas}
+use Rattle.first_form.specs.Rejected.{IsRejected}
+use Rattle.first_form.specs.Runs.{IsAccepted, IsVerdict}
 
 -- ---- SourceReadings: what each source gave
 
@@ -75,31 +81,46 @@ ComesTo command readings sources.Program = IsRead command sources.Program
 ComesTo command readings sources.Input = IsRead command sources.Input × (program : Program) × HasProgram readings program
 ComesTo command readings sources.Run =
     IsRead command sources.Run × (program : Program) × (input : Input) × CanRun readings program input
+ComesTo command readings sources.Casm = IsRead command sources.Casm
 
 -- the bytes are no run file, and this is their first refusal in byte order
 abbrev pub IsNoRunFile : List ℕ → FileRefusal → Type 0
 IsNoRunFile bytes refusal = ((run : Run) → IsRunFile bytes run → ⊥) × (reading bytes ≡ Err refusal)
 
+-- the text is that of this code, which has no more words than code may have
+abbrev pub IsCasm : List ℕ → List Instr → Type 0
+IsCasm text code = Text standard code text × IsShort code
+
 -- ---- Causes
 
--- What causes each answer to a command, in the order of work. Arguments that are no command are not built.
+-- What causes each answer to a command, in the order of work. Arguments that are no command are refused as such.
 abbrev pub Cause : Option Command → SourceReadings → Answer → Type 0
-Cause None readings answer = answer ≡ answers.NotBuilt
+Cause None readings answer = answer ≡ answers.Usage
+Cause (Some command) readings answers.Usage = ⊥
 Cause (Some command) readings (answers.Missing source) = ComesTo command readings source × (readings source ≡ absent)
 Cause (Some command) readings (answers.ReadFault source) = ComesTo command readings source × (readings source ≡ unread)
 Cause (Some command) readings (answers.TooLong source) = ComesTo command readings source × IsTooLong source (readings source)
 Cause (Some command) readings answers.NotBuilt =
-    Holds sources.Program (readings sources.Program) (λ text. (program : Program) → IsProgram text program → ⊥)
-    ⊎ ((program : Program) × HasProgram readings program
+    (command ≡ commands.Planned)
+    ⊎ (IsRead command sources.Program
+    × Holds sources.Program (readings sources.Program) (λ text. (program : Program) → IsProgram text program → ⊥))
+    ⊎ (IsRead command sources.Input × (program : Program) × HasProgram readings program
     × Holds sources.Input (readings sources.Input) (λ text. (input : Input) → IsInput program text input → ⊥))
+Cause (Some command) readings (answers.CasmRefused fault) =
+    IsRead command sources.Casm × Holds sources.Casm (readings sources.Casm) (λ text. Refused text fault)
 Cause (Some command) readings (answers.NotEnoughGas need given) =
-    (program : Program) × (input : Input)
+    IsRead command sources.Input × (program : Program) × (input : Input)
     × HasProgram readings program × HasInput readings program input × (given < need) × (need ≡ entry_gas program) × (given ≡ input.gas)
 Cause (Some command) readings (answers.RunRefused refusal) =
     ComesTo command readings sources.Run × Holds sources.Run (readings sources.Run) (λ bytes. IsNoRunFile bytes refusal)
 Cause (Some command) readings (answers.RunRejected fault) =
-    (program : Program) × (input : Input) × (run : Run)
+    IsRead command sources.Run × (program : Program) × (input : Input) × (run : Run)
     × CanRun readings program input × HasRun readings run × IsRejected program input run fault
 Cause (Some command) readings (answers.Judged verdict) =
-    (program : Program) × (input : Input) × (run : Run)
+    IsRead command sources.Run × (program : Program) × (input : Input) × (run : Run)
     × CanRun readings program input × HasRun readings run × IsAccepted program input run × IsVerdict program input run verdict
+Cause (Some command) readings (answers.Ran file) =
+    (execute : Execute) × (command ≡ commands.Run execute) × (program : Program) × (input : Input)
+    × CanRun readings program input × (file ≡ spelling (honest_run program input))
+Cause (Some command) readings (answers.Assembled code) =
+    IsRead command sources.Casm × Holds sources.Casm (readings sources.Casm) (λ text. IsCasm text code)

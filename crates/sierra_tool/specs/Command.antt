@@ -1,20 +1,35 @@
 -- The commands: how each is written and what it reads, and the status and the text of each answer.
-use Rattle.std.specs.Prelude.{ℕ, ◌≡◌, ◌^◌, List, [], ◌∷◌, ◌++◌, Option, Some, None, IsSome, codes, decimal, if◌then◌else◌}
+use Rattle.std.specs.Prelude.{ℕ, ◌≡◌, ◌<◌, ◌^◌, ◌⊎◌, List, [], ◌∷◌, Option, Some, None, IsSome, length, codes, decimal}
+use Rattle.byte_reading.specs.Decimal.{decimal_text}
 use Rattle.std.specs.List.{concat}
 use Rattle.std.specs.Option.{unwrap_or}
+use Rattle.first_form.specs.Texts.{verdict_text}
 use Rattle.sierra_tool.specs.declared.answer.Answer.{Answer}
 use Rattle.sierra_tool.specs.declared.answer.Answer.TheVariants as answers
 use Rattle.sierra_tool.specs.declared.command.Command.{Command}
 use Rattle.sierra_tool.specs.declared.command.Command.TheVariants as commands
 use Rattle.sierra_tool.specs.declared.command.Source.{Source}
 use Rattle.sierra_tool.specs.declared.command.Source.TheVariants as sources
-use Rattle.sierra_tool.specs.declared.verdict.Value.{Value}
-use Rattle.sierra_tool.specs.declared.verdict.Value.TheVariants as values
-use Rattle.sierra_tool.specs.declared.verdict.Verdict.{Verdict}
+use Rattle.sierra_tool.specs.Lines.{asm_fault_line, file_refusal_line, check_fault_line, words_text}
+
+-- the arguments are a command that isn't built: `compile`, `gas` or `show` with a program, `eval` with an input too, `run`
+-- with a script besides, or `make` with a number below 2 ^ 64
+abbrev pub IsPlanned : List (List ℕ) → Type 0
+IsPlanned [] = ⊥
+IsPlanned (word ∷ others) =
+    ((word ≡ codes "compile") × (length others ≡ 1))
+    ⊎ ((word ≡ codes "gas") × (length others ≡ 1))
+    ⊎ ((word ≡ codes "show") × (length others ≡ 1))
+    ⊎ ((word ≡ codes "eval") × (length others ≡ 2))
+    ⊎ ((word ≡ codes "run") × (length others ≡ 3))
+    ⊎ ((word ≡ codes "make") × ((number : ℕ) × (number < 2 ^ 64) × (others ≡ decimal_text number ∷ [])))
 
 -- the arguments are this command
 abbrev pub IsCommand : List (List ℕ) → Command → Type 0
 IsCommand arguments (commands.Check check) = arguments ≡ codes "check" ∷ check.program.now ∷ check.input.now ∷ check.run.now ∷ []
+IsCommand arguments (commands.Run execute) = arguments ≡ codes "run" ∷ execute.program.now ∷ execute.input.now ∷ []
+IsCommand arguments (commands.Asm assemble) = arguments ≡ codes "asm" ∷ assemble.file.now ∷ []
+IsCommand arguments commands.Planned = IsPlanned arguments
 
 -- the command that the arguments are, or None where they are none
 abbrev pub Parses : List (List ℕ) → Option Command → Type 0
@@ -23,68 +38,70 @@ Parses arguments (Some command) = IsCommand arguments command
 
 -- the name of the file for each source that a command reads
 abbrev pub name_of : Option Command → Source → Option (List ℕ)
-name_of None source = None
 name_of (Some (commands.Check check)) sources.Program = Some check.program.now
 name_of (Some (commands.Check check)) sources.Input = Some check.input.now
 name_of (Some (commands.Check check)) sources.Run = Some check.run.now
+name_of (Some (commands.Check check)) sources.Casm = None
+name_of (Some (commands.Run execute)) sources.Program = Some execute.program.now
+name_of (Some (commands.Run execute)) sources.Input = Some execute.input.now
+name_of (Some (commands.Run execute)) sources.Run = None
+name_of (Some (commands.Run execute)) sources.Casm = None
+name_of (Some (commands.Asm assemble)) sources.Program = None
+name_of (Some (commands.Asm assemble)) sources.Input = None
+name_of (Some (commands.Asm assemble)) sources.Run = None
+name_of (Some (commands.Asm assemble)) sources.Casm = Some assemble.file.now
+name_of (Some commands.Planned) source = None
+name_of None source = None
 
 -- the command reads this source
 abbrev pub IsRead : Command → Source → Type 0
 IsRead command source = IsSome (name_of (Some command) source)
 
+-- the source that is read first
+abbrev pub first_source : Command → Source
+first_source (commands.Check check) = sources.Program
+first_source (commands.Run execute) = sources.Program
+first_source (commands.Asm assemble) = sources.Casm
+first_source commands.Planned = sources.Program
+
 -- the name of the file that is read first
 abbrev pub first_name : Option Command → Option (List ℕ)
 first_name None = None
-first_name (Some (commands.Check check)) = Some check.program.now
+first_name (Some command) = name_of (Some command) (first_source command)
 
 -- how many bytes a source may have
 abbrev pub limit : Source → ℕ
-limit sources.Program = 2 ^ 24
-limit sources.Input = 2 ^ 24
-limit sources.Run = 2 ^ 24
+limit source = 2 ^ 24
 
 abbrev pub status_of : Answer → ℕ
 status_of (answers.Judged verdict) = 0
+status_of (answers.Ran file) = 0
+status_of (answers.Assembled code) = 0
+status_of answers.Usage = 2
 status_of (answers.Missing source) = 3
 status_of (answers.ReadFault source) = 4
 status_of (answers.TooLong source) = 7
 status_of answers.NotBuilt = 9
+status_of (answers.CasmRefused fault) = 10
 status_of (answers.NotEnoughGas need given) = 13
 status_of (answers.RunRefused refusal) = 14
 status_of (answers.RunRejected fault) = 15
-
-abbrev pub value_text : Value → List ℕ
-value_text (values.Felt n) = decimal n
-
--- values behind others, each behind a comma and a space
-abbrev pub more_values : List Value → List ℕ
-more_values [] = []
-more_values (value ∷ others) = codes ", " ++ (value_text value ++ more_values others)
-
-abbrev pub values_text : List Value → List ℕ
-values_text [] = codes "()"
-values_text (value ∷ others) = value_text value ++ more_values others
-
--- the verdict's four lines
-abbrev pub verdict_text : Verdict → List ℕ
-verdict_text verdict =
-    concat ((if verdict.outcome.panic then codes "panic " else codes "value ") ∷ values_text verdict.outcome.values
-    ∷ codes "\ngas used " ∷ decimal verdict.outcome.gas_used
-    ∷ codes "\nsteps " ∷ decimal verdict.steps
-    ∷ codes "\nchecks " ∷ decimal verdict.checks
-    ∷ codes "\n" ∷ [])
 
 -- a line of this word and the name of the file
 abbrev pub file_line : List ℕ → Option Command → Source → List ℕ
 file_line word command source = concat (word ∷ unwrap_or (name_of command source) [] ∷ codes "\n" ∷ [])
 
--- what is written with each answer; a refused run file and a rejected run have no line yet
+-- what is written with each answer
 abbrev pub text_of : Option Command → Answer → List ℕ
 text_of command (answers.Judged verdict) = verdict_text verdict
+text_of command (answers.Ran file) = file
+text_of command (answers.Assembled code) = words_text code
+text_of command answers.Usage = codes "usage\n"
 text_of command (answers.Missing source) = file_line (codes "missing ") command source
 text_of command (answers.ReadFault source) = file_line (codes "read fault ") command source
 text_of command (answers.TooLong source) = file_line (codes "too long ") command source
 text_of command answers.NotBuilt = codes "not built\n"
+text_of command (answers.CasmRefused fault) = asm_fault_line fault
 text_of command (answers.NotEnoughGas need given) = concat (codes "need " ∷ decimal need ∷ codes " given " ∷ decimal given ∷ codes "\n" ∷ [])
-text_of command (answers.RunRefused refusal) = []
-text_of command (answers.RunRejected fault) = []
+text_of command (answers.RunRefused refusal) = file_refusal_line refusal
+text_of command (answers.RunRejected fault) = check_fault_line fault

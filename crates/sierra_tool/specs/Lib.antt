@@ -1,14 +1,8 @@
-pub mod Accepted
 pub mod Causes
 pub mod Command
 pub mod Exact
-pub mod Forms
-pub mod Honest
-pub mod Meaning
-pub mod Ranges
-pub mod Rejected
-pub mod Runs
-pub mod Scan
+pub mod Headline
+pub mod Lines
+pub mod Output
 pub mod Stages
 pub mod Tool
-pub mod Values

@@ -4,6 +4,8 @@ use Rattle.edge_io.specs.Files.{FilesView, Keeps}
 use Rattle.edge_io.specs.Sinks.{SinkView, WritesAll, WritesPart}
 use Rattle.run_file.specs.declared.refusal.FileRefusal.{FileRefusal}
 use Rattle.run_file.specs.declared.run.Run.{Run}
+use Rattle.casm_text.specs.Refusals.{Refused}
+use Rattle.casm_text.specs.declared.fault.AsmFault.{AsmFault}
 use Rattle.sierra_tool.specs.declared.answer.Answer.{Answer}
 use Rattle.sierra_tool.specs.declared.answer.Answer.TheVariants as answers
 use Rattle.sierra_tool.specs.declared.answer.Stop.{Stop}
@@ -12,14 +14,11 @@ use Rattle.sierra_tool.specs.declared.command.Command.{Command}
 use Rattle.sierra_tool.specs.declared.command.Source.{Source}
 use Rattle.sierra_tool.specs.declared.output.Unwritten.{Unwritten}
 use Rattle.sierra_tool.specs.declared.output.Unwritten.TheVariants as unwritten
-use Rattle.sierra_tool.specs.declared.program.Program.{Program}
-use Rattle.sierra_tool.specs.declared.input.Input.{Input}
-use Rattle.sierra_tool.specs.Causes.{Reading, absent, unread, found, SourceReadings, Gives, AreReadings, Holds, IsTooLong, IsNoRunFile, Cause}
-use Rattle.sierra_tool.specs.Forms.{IsProgram, IsInput}
-use Rattle.sierra_tool.specs.Rejected.{IsRejected}
-use Rattle.sierra_tool.specs.Runs.{IsAccepted, IsVerdict}
-use Rattle.sierra_tool.specs.declared.accepted.CheckFault.{CheckFault}
-use Rattle.sierra_tool.specs.declared.verdict.Verdict.{Verdict}
+use Rattle.sierra_tool.specs.declared.work.Start.{Start}
+use Rattle.first_form.specs.declared.program.Program.{Program}
+use Rattle.first_form.specs.declared.input.Input.{Input}
+use Rattle.sierra_tool.specs.Causes.{Reading, absent, unread, found, SourceReadings, Gives, AreReadings, Holds, IsTooLong, IsNoRunFile, CanRun, Cause}
+use Rattle.first_form.specs.Forms.{IsProgram, IsInput}
 use Rattle.sierra_tool.specs.Command.{limit, status_of, text_of}
 use Rattle.sierra_tool.specs.Tool.{IsCounted, Delivers, MayHaveFirst}
 
@@ -48,6 +47,9 @@ NoInput program text answer = ((input : Input) → IsInput program text input �
 abbrev pub NoRun : List ℕ → Answer → Type 0
 NoRun bytes answer = (refusal : FileRefusal) × IsNoRunFile bytes refusal × (answer ≡ answers.RunRefused refusal)
 
+abbrev pub NoCasm : List ℕ → Answer → Type 0
+NoCasm text answer = (fault : AsmFault) × Refused text fault × (answer ≡ answers.CasmRefused fault)
+
 abbrev pub IsNotMissing : Answer → Type 0
 IsNotMissing answer = (source : Source) → answer ≢ answers.Missing source
 
@@ -66,12 +68,20 @@ IsFound source given bytes = (given ≡ found bytes) × (length bytes ≤ limit 
 abbrev pub IsCaused : FilesView → FilesView → Option Command → SourceReadings → Answer → Type 0
 IsCaused before now command readings answer = Cause command readings answer × IsCounted before now answer
 
--- A command's work: the files gave readings, and the result comes from them.
-pub record Works (before now : FilesView) (command : Option Command) (result : Result Answer Stop) : Type 0 where
+-- A part of a command's work up to some point: the files gave readings, and the result comes from them.
+pub record Reaches {X : Type 0} (before now : FilesView) (command : Option Command) (taken : SourceReadings → X → Type 0) (result : Result X Stop) : Type 0 where
   pub keeps : Keeps before now
   pub readings : SourceReadings
   pub given : AreReadings before.contents command readings
-  pub outcome : MatchResult result (IsCaused before now command readings) (Stops (IsCaused before now command readings) (MayHaveFirst before.contents command))
+  pub outcome : MatchResult result (taken readings) (Stops (IsCaused before now command readings) (MayHaveFirst before.contents command))
+
+-- a command's whole work, up to its answer
+abbrev pub Works : FilesView → FilesView → Option Command → Result Answer Stop → Type 0
+Works before now command = Reaches before now command (IsCaused before now command)
+
+-- .. up to the program and the input that it can run
+abbrev pub Starts : FilesView → FilesView → Option Command → Result Start Stop → Type 0
+Starts before now command = Reaches before now command (λ readings start. CanRun readings start.program start.input)
 
 -- an answer was written, or a write failed, or there was no memory for a text other than a missing file's
 abbrev pub IsWritten : SinkView → SinkView → Option Command → Answer → Result ⊤ Unwritten → Type 0
@@ -84,9 +94,3 @@ abbrev pub IsDelivered : SinkView → SinkView → Option Command → Answer →
 IsDelivered before now command answer status =
     Delivers before now (text_of command answer) (status_of answer) status
     ⊎ ((status ≡ 6) × WritesAll before now [] × IsNotMissing answer)
-
--- a run that was read is rejected, or its verdict is answered
-abbrev pub OfRun : Program → Input → Run → Answer → Type 0
-OfRun program input run answer =
-    ((fault : CheckFault) × IsRejected program input run fault × (answer ≡ answers.RunRejected fault))
-    ⊎ (IsAccepted program input run × ((verdict : Verdict) × IsVerdict program input run verdict × (answer ≡ answers.Judged verdict)))

@@ -5,25 +5,35 @@ ghost use Rattle.std.specs.Prelude.{◌≡◌};
 ghost use Rattle.sierra_tool.specs.Command.{status_of};
 ghost use Rattle.sierra_tool.specs.declared.answer.Stop.TheVariants.{OutOfMemory};
 
-use crate::accepted::CheckFault;
 use crate::command::Source;
-use crate::verdict::Verdict;
+use casm_text::AsmFault;
+use casm_word::Code;
+use first_form::{CheckFault, Verdict};
 use run_file::FileRefusal;
 use std::alloc::AllocError;
+use std::marker::Model;
 
-/// The answer of a command that didn't run out of memory.
+/// The answer to a call that didn't run out of memory.
 #[derive(Debug, Drop)]
 pub enum Answer {
     /// The run is accepted, and this is what it shows.
     Judged(Verdict),
+    /// The bytes of the honest run's file.
+    Ran(RunBytes),
+    /// The code of a CASM text.
+    Assembled(Code),
+    /// The arguments are no command.
+    Usage,
     /// There is no such file.
     Missing(Source),
     /// The file could not be read.
     ReadFault(Source),
     /// The file has more bytes than it may have.
     TooLong(Source),
-    /// The arguments, the program or the input are not of the form that is built.
+    /// The command isn't built, or the program or the input isn't of the form that is built.
     NotBuilt,
+    /// The bytes are no CASM text, by this fault.
+    CasmRefused(AsmFault),
     /// The input's gas is less than a run of the program needs.
     NotEnoughGas {
         /// The gas that a run needs.
@@ -43,15 +53,47 @@ impl Answer {
         ensures { result ≡ status_of self.now }
     {
         match self {
-            Answer::Judged(_) => 0,
+            Answer::Judged(_) | Answer::Ran(_) | Answer::Assembled(_) => 0,
+            Answer::Usage => 2,
             Answer::Missing(_) => 3,
             Answer::ReadFault(_) => 4,
             Answer::TooLong(_) => 7,
             Answer::NotBuilt => 9,
+            Answer::CasmRefused(_) => 10,
             Answer::NotEnoughGas { .. } => 13,
             Answer::RunRefused(_) => 14,
             Answer::RunRejected(_) => 15,
         }
+    }
+}
+
+/// The bytes of a run file, as they are written.
+#[derive(Debug, Drop)]
+pub struct RunBytes {
+    bytes: Vec<u8>,
+}
+
+impl Model for RunBytes {
+    ghost use Rattle.std.specs.Prelude.{List, ℕ};
+
+    ghost Value = { List ℕ };
+
+    ghost view = { λ file. file.bytes.items };
+}
+
+impl RunBytes {
+    /// These bytes.
+    pub fn new(bytes: Vec<u8>) -> RunBytes
+        ensures { result ≡ bytes.items }
+    {
+        RunBytes { bytes }
+    }
+
+    /// The bytes. It takes no memory.
+    pub fn as_slice(&self) -> &[u8]
+        ensures { result.now ≡ self.now }
+    {
+        &self.bytes
     }
 }
 

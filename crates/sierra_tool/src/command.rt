@@ -1,10 +1,13 @@
 //! The commands: arguments come in from the top call, and the command that they are goes out, with the names of its files.
 
-ghost use Rattle.std.specs.Prelude.{◌≡◌, map, option_copied, string_bytes};
-ghost use Rattle.std.specs.Option.{option_map};
-ghost use Rattle.sierra_tool.specs.Command.{Parses, name_of, limit};
+ghost use Rattle.std.specs.Prelude.{◌≡◌, ◌<◌, ◌^◌, ℕ, [], ◌∷◌, map, option_copied, string_bytes, IsTrue, ◌↔◌};
+ghost use Rattle.std.specs.Option.{option_map, unwrap_or};
+ghost use Rattle.byte_reading.specs.Decimal.{decimal_text};
+ghost use Rattle.sierra_tool.specs.Command.{IsPlanned, Parses, name_of, limit};
 
-/// What a command reads, in the order in which every command reads.
+use byte_reading::read_decimal;
+
+/// What a command reads.
 #[derive(Clone, Copy, Debug, PartialEq, Eq)]
 pub enum Source {
     /// The Sierra text.
@@ -13,6 +16,8 @@ pub enum Source {
     Input,
     /// The run file that somebody made.
     Run,
+    /// The CASM text.
+    Casm,
 }
 
 impl Source {
@@ -21,7 +26,7 @@ impl Source {
         ensures { result ≡ limit self }
     {
         match self {
-            Source::Program | Source::Input | Source::Run => 1 << 24,
+            Source::Program | Source::Input | Source::Run | Source::Casm => 1 << 24,
         }
     }
 }
@@ -37,11 +42,33 @@ pub struct Check<'a> {
     pub run: &'a str,
 }
 
+/// The command `run PROGRAM INPUT`, by the names of its files.
+#[derive(Clone, Copy, Debug, PartialEq, Eq)]
+pub struct Execute<'a> {
+    /// The name of the program.
+    pub program: &'a str,
+    /// The name of the input.
+    pub input: &'a str,
+}
+
+/// The command `asm FILE`, by the name of its file.
+#[derive(Clone, Copy, Debug, PartialEq, Eq)]
+pub struct Assemble<'a> {
+    /// The name of the CASM text.
+    pub file: &'a str,
+}
+
 /// A command, with the names of the files that it reads.
 #[derive(Clone, Copy, Debug, PartialEq, Eq)]
 pub enum Command<'a> {
     /// `check PROGRAM INPUT RUN`: whether a run is accepted, and what it shows.
     Check(Check<'a>),
+    /// `run PROGRAM INPUT`: the run file of the honest run.
+    Run(Execute<'a>),
+    /// `asm FILE`: the words of a CASM text.
+    Asm(Assemble<'a>),
+    /// A command that isn't built yet.
+    Planned,
 }
 
 impl<'a> Command<'a> {
@@ -57,6 +84,14 @@ impl<'a> Command<'a> {
                     run: run.as_str(),
                 }))
             }
+            [word, program, input] if word.as_str() == "run" => Some(Command::Run(Execute {
+                program: program.as_str(),
+                input: input.as_str(),
+            })),
+            [word, file] if word.as_str() == "asm" => Some(Command::Asm(Assemble {
+                file: file.as_str(),
+            })),
+            _ if is_planned(arguments) => Some(Command::Planned),
             _ => None,
         }
     }
@@ -65,12 +100,54 @@ impl<'a> Command<'a> {
     pub fn name(&self, source: Source) -> Option<&'a str>
         ensures { option_map (λ name. name.now) result ≡ name_of (Some self.now) source }
     {
-        match self {
-            Command::Check(check) => match source {
-                Source::Program => Some(check.program),
-                Source::Input => Some(check.input),
-                Source::Run => Some(check.run),
-            },
+        match (self, source) {
+            (Command::Check(check), Source::Program) => Some(check.program),
+            (Command::Check(check), Source::Input) => Some(check.input),
+            (Command::Check(check), Source::Run) => Some(check.run),
+            (Command::Run(execute), Source::Program) => Some(execute.program),
+            (Command::Run(execute), Source::Input) => Some(execute.input),
+            (Command::Asm(assemble), Source::Casm) => Some(assemble.file),
+            _ => None,
         }
+    }
+
+    /// The same, which is empty for a source that the command doesn't read.
+    pub fn file(&self, source: Source) -> &'a str
+        ensures { result.now ≡ unwrap_or (name_of (Some self.now) source) [] }
+    {
+        self.name(source).unwrap_or("")
+    }
+}
+
+/// Whether the arguments are a command that isn't built.
+fn is_planned(arguments: &[String]) -> bool
+    ensures { IsTrue result ↔ IsPlanned (map string_bytes arguments.now) }
+{
+    match arguments.split_first() {
+        Some((word, others)) => takes(word.as_str(), others),
+        None => false,
+    }
+}
+
+/// Whether a command of this word, which isn't built, takes these further arguments.
+fn takes(word: &str, others: &[String]) -> bool
+    ensures { IsTrue result ↔ IsPlanned (word.now ∷ map string_bytes others.now) }
+{
+    match word {
+        "compile" | "gas" | "show" => others.len() == 1,
+        "eval" => others.len() == 2,
+        "run" => others.len() == 3,
+        "make" => is_one_number(others),
+        _ => false,
+    }
+}
+
+/// Whether the arguments are one, a number below `2^64` in decimal digits without a leading zero.
+fn is_one_number(arguments: &[String]) -> bool
+    ensures { IsTrue result ↔ ((number : ℕ) × (number < 2 ^ 64) × (map string_bytes arguments.now ≡ decimal_text number ∷ [])) }
+{
+    match arguments {
+        [argument] => read_decimal(argument.as_bytes(), u128::from(u64::MAX)).is_ok(),
+        _ => false,
     }
 }

@@ -1,19 +1,19 @@
-//! Writing an answer: an answer comes in from the top call, and its text goes out to the sink in one write: the verdict's
-//! lines, or the one line of a refusal. A missing file's line takes no memory.
+//! Writing an answer: an answer comes in from the top call, and its text goes out to the sink in one write: a run file,
+//! lines of text, or the one line of a refusal. A missing file's line takes no memory.
 
 ghost use Rattle.std.specs.Prelude.{◌≡◌, ◌++◌, [], ◌∷◌, Some, IfOk, string_bytes};
-ghost use Rattle.std.specs.Option.{unwrap_or};
 ghost use Rattle.edge_io.specs.Sinks.{Writes};
-ghost use Rattle.sierra_tool.specs.Command.{name_of, value_text, values_text, verdict_text, text_of};
+ghost use Rattle.sierra_tool.specs.Command.{text_of};
+ghost use Rattle.sierra_tool.specs.Output.{bytes_of, lines_of};
 ghost use Rattle.sierra_tool.specs.Stages.{IsWritten};
 ghost use Rattle.sierra_tool.specs.declared.output.Unwritten.TheVariants as unwritten;
 
 use crate::answer::Answer;
-use crate::command::{Command, Source};
-use crate::verdict::{Value, Verdict};
+use crate::command::Command;
+use crate::lines::{asm_fault_line, check_fault_line, file_refusal_line, words_text};
 use edge_io::{Failed, Sink, write_all};
+use first_form::verdict_text;
 use std::alloc::{AllocError, Global};
-use std::fmt;
 
 /// Why an answer was not written.
 #[derive(Clone, Copy, Debug, PartialEq, Eq, Drop)]
@@ -40,12 +40,23 @@ impl From<AllocError> for Unwritten {
     }
 }
 
-impl fmt::Display for Value {
-    ghost output = { λ value. Some (value_text value) };
+/// The text of an answer: made for it, or the bytes that it has.
+#[derive(Drop)]
+enum AnswerText<'a> {
+    /// Text of its own.
+    Made(String),
+    /// The bytes of a run file.
+    Held(&'a [u8]),
+}
 
-    fn fmt<W: fmt::Write>(&self, f: &mut fmt::Formatter<W>) -> fmt::Result {
+impl AnswerText<'_> {
+    /// The bytes of the text.
+    fn as_bytes(&self) -> &[u8]
+        ensures { result.now ≡ bytes_of self.now }
+    {
         match self {
-            Value::Felt(n) => fmt::Display::fmt(n, f),
+            AnswerText::Made(text) => text.as_bytes(),
+            AnswerText::Held(bytes) => bytes,
         }
     }
 }
@@ -60,7 +71,7 @@ pub fn write_answer<S: Sink>(
     ensures { IsWritten (S.view out.old) (S.view out.new) (Some command.now) answer.now result }
 {
     if let Answer::Missing(source) = answer {
-        write_line(out, b"missing ", name(command, *source).as_bytes())?;
+        write_line(out, b"missing ", command.file(*source).as_bytes())?;
         return Ok(());
     }
     let text = text(alloc, command, answer)?;
@@ -69,53 +80,37 @@ pub fn write_answer<S: Sink>(
 }
 
 /// The text of an answer.
-fn text(alloc: Global, command: &Command, answer: &Answer) -> Result<String, AllocError>
-    ensures { IfOk result (λ text. string_bytes text ≡ text_of (Some command.now) answer.now) }
+fn text<'a>(
+    alloc: Global,
+    command: &Command,
+    answer: &'a Answer,
+) -> Result<AnswerText<'a>, AllocError>
+    ensures { IfOk result (λ text. bytes_of text ≡ text_of (Some command.now) answer.now) }
+{
+    if let Answer::Ran(file) = answer {
+        return Ok(AnswerText::Held(file.as_slice()));
+    }
+    Ok(AnswerText::Made(lines(alloc, command, answer)?))
+}
+
+/// The lines of an answer, which is no run file.
+fn lines(alloc: Global, command: &Command, answer: &Answer) -> Result<String, AllocError>
+    ensures { IfOk result (λ text. string_bytes text ≡ lines_of (Some command.now) answer.now) }
 {
     match answer {
         Answer::Judged(verdict) => verdict_text(alloc, verdict),
-        Answer::Missing(source) => line(alloc, "missing ", name(command, *source)),
-        Answer::ReadFault(source) => line(alloc, "read fault ", name(command, *source)),
-        Answer::TooLong(source) => line(alloc, "too long ", name(command, *source)),
+        Answer::Ran(_) => Ok(String::new(alloc)),
+        Answer::Assembled(code) => words_text(alloc, code),
+        Answer::Usage => String::from_str(alloc, "usage\n"),
+        Answer::Missing(source) => line(alloc, "missing ", command.file(*source)),
+        Answer::ReadFault(source) => line(alloc, "read fault ", command.file(*source)),
+        Answer::TooLong(source) => line(alloc, "too long ", command.file(*source)),
         Answer::NotBuilt => String::from_str(alloc, "not built\n"),
+        Answer::CasmRefused(fault) => asm_fault_line(alloc, fault),
         Answer::NotEnoughGas { need, given } => format!(in alloc; "need {need} given {given}\n"),
-        Answer::RunRefused(_) | Answer::RunRejected(_) => Ok(String::new(alloc)),
+        Answer::RunRefused(refusal) => file_refusal_line(alloc, refusal),
+        Answer::RunRejected(fault) => check_fault_line(alloc, fault),
     }
-}
-
-/// The verdict's four lines.
-fn verdict_text(alloc: Global, verdict: &Verdict) -> Result<String, AllocError>
-    ensures { IfOk result (λ text. string_bytes text ≡ verdict_text verdict.now) }
-{
-    let outcome = &verdict.outcome;
-    let word = if outcome.panic { "panic" } else { "value" };
-    let values = values_text(alloc, outcome.values.as_slice())?;
-    let gas = outcome.gas_used;
-    let steps = verdict.steps;
-    let checks = verdict.checks;
-    format!(in alloc; "{word} {values}\ngas used {gas}\nsteps {steps}\nchecks {checks}\n")
-}
-
-/// The values, with a comma and a space between two, or `()` where there is none.
-fn values_text(alloc: Global, values: &[Value]) -> Result<String, AllocError>
-    ensures { IfOk result (λ text. string_bytes text ≡ values_text values.now) }
-{
-    let Some((first, others)) = values.split_first() else {
-        return String::from_str(alloc, "()");
-    };
-    let mut text = first.to_string(alloc)?;
-    for value in others {
-        text.push_str(", ")?;
-        text.push_str(value.to_string(alloc)?.as_str())?;
-    }
-    Ok(text)
-}
-
-/// The name of a source's file, which is empty for a source that the command doesn't read.
-fn name<'a>(command: &Command<'a>, source: Source) -> &'a str
-    ensures { result.now ≡ unwrap_or (name_of (Some command.now) source) [] }
-{
-    command.name(source).unwrap_or("")
 }
 
 /// A line of a word and a name.

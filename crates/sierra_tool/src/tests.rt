@@ -1,4 +1,5 @@
-//! The tool over files and a sink in memory, at the run that adds 7 to 5 and at what lies near to it.
+//! The tool over files and a sink in memory: the run that adds 7 to 5 and what lies near to it, runs that the tool itself
+//! makes, and CASM texts.
 
 use crate::{Shelf, sierra_tool};
 use edge_io::{MemFiles, MemSink, QuietFiles, QuietSink};
@@ -144,7 +145,7 @@ fn call(
 ) -> Result<(u8, Vec<u8>), AllocError> {
     let arguments = owned(alloc, arguments)?;
     let mut files = QuietFiles::new(named(alloc, given)?);
-    let mut out = QuietSink::new(alloc, 64)?;
+    let mut out = QuietSink::new(alloc, 512)?;
     let status = sierra_tool(alloc, &arguments, &mut files, &mut out, Shelf {});
     Ok((status, out.bytes().to_vec(alloc)?))
 }
@@ -154,12 +155,9 @@ fn answers_each_check(rt: HostRuntime) -> Result<(), Fail> {
     let alloc = rt.alloc();
     let own = run_file(alloc, &[], &STATES)?;
     let wrapping = run_file(alloc, &WRAPPING_CELLS, &STATES)?;
-    let other_magic = altered(alloc, &own, 0, b"X")?;
-    let other_result = run_file(alloc, &[(4294967299, Some(13))], &STATES)?;
-    let no_last_state = run_file(alloc, &[], &STATES[..3])?;
     let two_constants = altered(alloc, PROGRAM, 62, b"8")?;
     let (program, input, run) = (Some(PROGRAM), Some(INPUT), Some(own.as_slice()));
-    let rows: [([Option<&[u8]>; 3], u8, &[u8]); 13] = [
+    let rows: [([Option<&[u8]>; 3], u8, &[u8]); 8] = [
         ([program, input, run], 0, VERDICT),
         (
             [program, Some(WRAPPING_INPUT), Some(&wrapping)],
@@ -176,11 +174,6 @@ fn answers_each_check(rt: HostRuntime) -> Result<(), Fail> {
             13,
             b"need 300 given 299\n",
         ),
-        ([program, input, Some(b"")], 14, b""),
-        ([program, input, Some(&other_magic)], 14, b""),
-        ([program, input, own.get(..303)], 14, b""),
-        ([program, input, Some(&other_result)], 15, b""),
-        ([program, input, Some(&no_last_state)], 15, b""),
     ];
     for (given, status, output) in rows {
         let (answered, written) = call(alloc, &CHECK, given)?;
@@ -191,19 +184,215 @@ fn answers_each_check(rt: HostRuntime) -> Result<(), Fail> {
 }
 
 #[test]
-fn answers_what_is_no_command(rt: HostRuntime) -> Result<(), Fail> {
+fn names_what_is_wrong_with_a_run(rt: HostRuntime) -> Result<(), Fail> {
     let alloc = rt.alloc();
-    let rows: [&[&str]; 5] = [
-        &[],
-        &[""],
-        &["check", "p", "i"],
-        &["check", "p", "i", "r", "x"],
-        &["run", "p", "i", "r"],
+    let own = run_file(alloc, &[], &STATES)?;
+    let [start, call, end, last] = STATES;
+    let rows: [(Vec<u8>, u8, &[u8]); 19] = [
+        (own.get(..0).unwrap_or(&[]).to_vec(alloc)?, 14, b"F4 0\n"),
+        (
+            own.get(..303).unwrap_or(&[]).to_vec(alloc)?,
+            14,
+            b"F4 303\n",
+        ),
+        (altered(alloc, &own, 304, b"x")?, 14, b"F5 304\n"),
+        (
+            altered(alloc, &own, 40, &0u64.to_le_bytes())?,
+            14,
+            b"F3 40\n",
+        ),
+        (
+            altered(alloc, &own, 32, &felt64::MODULUS.to_le_bytes())?,
+            14,
+            b"F2 32\n",
+        ),
+        (altered(alloc, &own, 0, b"X")?, 14, b"F1\n"),
+        (
+            altered(alloc, &own, 200, &(1u64 << 32).to_le_bytes())?,
+            14,
+            b"F6\n",
+        ),
+        (
+            run_file(alloc, &[], &[start, call, end, last, last])?,
+            15,
+            b"C5 3\n",
+        ),
+        (with_cells(alloc, &[(5, Some(8))])?, 15, b"C1 5\n"),
+        (with_cells(alloc, &[(6, None)])?, 15, b"C1 6\n"),
+        (
+            with_cells(alloc, &[(4294967296, Some(6)), (4294967299, Some(13))])?,
+            15,
+            b"C8 4294967296 5 6\n",
+        ),
+        (
+            with_cells(alloc, &[(4294967296, None)])?,
+            15,
+            b"C8 4294967296 5 none\n",
+        ),
+        (
+            with_cells(alloc, &[(4294967299, Some(13))])?,
+            15,
+            b"C3 1 assert 13 12\n",
+        ),
+        (
+            with_cells(alloc, &[(4294967299, None)])?,
+            15,
+            b"C3 1 missing 4294967299\n",
+        ),
+        (
+            with_cells(alloc, &[(4294967298, Some(3))])?,
+            15,
+            b"C3 0 call 3 2\n",
+        ),
+        (
+            run_file(
+                alloc,
+                &[],
+                &[start, call, [6, 4294967301, 4294967299], last],
+            )?,
+            15,
+            b"C4 1\n",
+        ),
+        (run_file(alloc, &[], &[start, call, end])?, 15, b"C6\n"),
+        (
+            run_file(alloc, &[], &[[4, 4294967297, 4294967297], call, end, last])?,
+            15,
+            b"C2\n",
+        ),
+        (
+            with_cells(alloc, &[(RC, Some(1 << 32))])?,
+            15,
+            b"C7 8589934592 4294967296\n",
+        ),
     ];
-    for arguments in rows {
+    for (run, status, output) in rows {
+        let (answered, written) = call_check(alloc, &run)?;
+        assert_eq!(rt; written.as_slice(), output);
+        assert_eq!(rt; answered, status, "{output:?}");
+    }
+    Ok(())
+}
+
+/// The run file in which these cells differ from the run's.
+fn with_cells(alloc: Global, changes: &[(u64, Option<u64>)]) -> Result<Vec<u8>, AllocError> {
+    run_file(alloc, changes, &STATES)
+}
+
+/// The status and the output of a check of this run of the program that adds 7, on 5.
+fn call_check(alloc: Global, run: &[u8]) -> Result<(u8, Vec<u8>), AllocError> {
+    call(alloc, &CHECK, [Some(PROGRAM), Some(INPUT), Some(run)])
+}
+
+#[test]
+fn runs_programs_so_that_their_checks_accept(rt: HostRuntime) -> Result<(), Fail> {
+    let alloc = rt.alloc();
+    let own = run_file(alloc, &[], &STATES)?;
+    let (status, written) = call(
+        alloc,
+        &["run", "p", "i"],
+        [Some(PROGRAM), Some(INPUT), None],
+    )?;
+    assert_eq!(rt; status, 0);
+    assert_eq!(rt; written.as_slice(), own.as_slice());
+    let rows: [(&[u8], &[u8]); 3] = [
+        (b"add", VERDICT),
+        (
+            b"sub",
+            b"value 18446744069414584319\ngas used 300\nsteps 3\nchecks 0\n",
+        ),
+        (b"mul", b"value 35\ngas used 300\nsteps 3\nchecks 0\n"),
+    ];
+    for (operation, verdict) in rows {
+        let program = of_operation(alloc, operation)?;
+        let (status, run) = call(
+            alloc,
+            &["run", "p", "i"],
+            [Some(&program), Some(INPUT), None],
+        )?;
+        assert_eq!(rt; status, 0, "{operation:?}");
+        let (status, written) = call(alloc, &CHECK, [Some(&program), Some(INPUT), Some(&run)])?;
+        assert_eq!(rt; status, 0, "{operation:?}");
+        assert_eq!(rt; written.as_slice(), verdict);
+    }
+    let (status, written) = call(
+        alloc,
+        &["run", "p", "i"],
+        [Some(PROGRAM), Some(b"gas 299\n5\n"), None],
+    )?;
+    assert_eq!(rt; status, 13);
+    assert_eq!(rt; written.as_slice(), b"need 300 given 299\n".as_slice());
+    Ok(())
+}
+
+/// The program with this operation in place of the sum.
+fn of_operation(alloc: Global, operation: &[u8]) -> Result<Vec<u8>, AllocError> {
+    let mut program = PROGRAM.to_vec(alloc)?;
+    for at in 0..PROGRAM.len() {
+        if PROGRAM.get(at..).unwrap_or(&[]).starts_with(b"add") {
+            program = altered(alloc, &program, at, operation)?;
+        }
+    }
+    Ok(program)
+}
+
+#[test]
+fn assembles_texts(rt: HostRuntime) -> Result<(), Fail> {
+    let alloc = rt.alloc();
+    let rows: [(&[u8], u8, &[u8]); 7] = [
+        (
+            b"ret; call rel 4; jmp rel 0; ap += 5; jmp rel 4 if [ap + -1] != 0;",
+            0,
+            b"0x208b7fff7fff7ffe\n0x1104800180018000\n0x0000000000000004\n0x010780017fff7fff\n0x0000000000000000\n\
+              0x040780017fff7fff\n0x0000000000000005\n0x020680017fff7fff\n0x0000000000000004\n",
+        ),
+        (b"", 0, b""),
+        (
+            b"ret; jmp rel -1;",
+            0,
+            b"0x208b7fff7fff7ffe\n0x010780017fff7fff\n0xffffffff00000000\n",
+        ),
+        (b"ret;\n rat;", 10, b"A1 2 3\n"),
+        (b"ret", 10, b"A1 1 4\n"),
+        (b"\n[ap + 32768] = 1;", 10, b"A2 2\n"),
+        (b"\n\nap += 18446744069414584321;", 10, b"A3 3\n"),
+    ];
+    for (text, status, output) in rows {
+        let (answered, written) = call(alloc, &["asm", "p"], [Some(text), None, None])?;
+        assert_eq!(rt; written.as_slice(), output);
+        assert_eq!(rt; answered, status, "{output:?}");
+    }
+    Ok(())
+}
+
+#[test]
+fn tells_commands_from_other_arguments(rt: HostRuntime) -> Result<(), Fail> {
+    let alloc = rt.alloc();
+    let (usage, planned) = ((2, b"usage\n".as_slice()), (9, b"not built\n".as_slice()));
+    let rows: [(&[&str], (u8, &[u8])); 19] = [
+        (&[], usage),
+        (&[""], usage),
+        (&["check", "a"], usage),
+        (&["check", "p", "i"], usage),
+        (&["check", "p", "i", "r", "x"], usage),
+        (&["run", "p"], usage),
+        (&["run", "p", "i", "s", "x"], usage),
+        (&["asm"], usage),
+        (&["asm", "p", "x"], usage),
+        (&["Check", "p", "i", "r"], usage),
+        (&["make", "05"], usage),
+        (&["make", "18446744073709551616"], usage),
+        (&["table", "p"], usage),
+        (&["compile", "p"], planned),
+        (&["gas", "p"], planned),
+        (&["show", "p"], planned),
+        (&["eval", "p", "i"], planned),
+        (&["run", "p", "i", "s"], planned),
+        (&["make", "18446744073709551615"], planned),
+    ];
+    for (arguments, (status, output)) in rows {
         let (answered, written) = call(alloc, arguments, [None; 3])?;
-        assert_eq!(rt; answered, 9, "{arguments:?}");
-        assert_eq!(rt; written.as_slice(), b"not built\n".as_slice());
+        assert_eq!(rt; answered, status, "{arguments:?}");
+        assert_eq!(rt; written.as_slice(), output, "{arguments:?}");
     }
     Ok(())
 }

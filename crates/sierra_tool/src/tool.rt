@@ -6,6 +6,7 @@ ghost use Rattle.edge_io.specs.Files.{Keeps};
 ghost use Rattle.sierra_tool.specs.Command.{text_of};
 ghost use Rattle.sierra_tool.specs.Stages.{Works, IsDelivered};
 ghost use Rattle.sierra_tool.specs.Exact.{IsExact};
+ghost use Rattle.sierra_tool.specs.Headline.{RunsAreAccepted};
 ghost use Rattle.sierra_tool.specs.Tool.{Tool, Delivers};
 
 use crate::answer::{Answer, Stop};
@@ -41,6 +42,9 @@ pub fn sierra_tool<F: Files, S: Sink>(
     // Of known files, each status comes if and only if its cause holds, faults and out of memory aside.
     ensures exact { IsExact (map string_bytes arguments.now) (F.view files.old).contents result }
 
+    // What `run` writes at status 0 is a run file that `check` accepts.
+    ensures runs { RunsAreAccepted (map string_bytes arguments.now) (F.view files.old) (S.view out.old) (S.view out.new) result }
+
     // Of any files, and any output.
     ensures missed { result ≡ 3 → Rose (F.view files.old).misses (F.view files.new).misses }
     ensures read_failed { result ≡ 4 → Rose (F.view files.old).faults (F.view files.new).faults }
@@ -72,15 +76,18 @@ fn answer<F: Files>(alloc: Global, files: &mut F, command: &Command) -> Result<A
 {
     match command {
         Command::Check(check) => check.answer(alloc, files),
+        Command::Run(execute) => execute.answer(alloc, files),
+        Command::Asm(assemble) => assemble.answer(alloc, files),
+        Command::Planned => Err(Stop::Refused(Answer::NotBuilt)),
     }
 }
 
-/// Writes that the arguments are no command that is built.
+/// Writes that the arguments are no command.
 fn refuse<S: Sink>(out: &mut S) -> u8
-    ensures { Delivers (S.view out.old) (S.view out.new) (text_of None Answer.NotBuilt) 9 result }
+    ensures { Delivers (S.view out.old) (S.view out.new) (text_of None Answer.Usage) 2 result }
 {
-    match write_all(out, b"not built\n") {
-        Ok(()) => Answer::NotBuilt.status(),
+    match write_all(out, b"usage\n") {
+        Ok(()) => Answer::Usage.status(),
         Err(_) => WRITE_FAULT,
     }
 }

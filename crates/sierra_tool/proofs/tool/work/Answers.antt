@@ -16,9 +16,9 @@ returns-in_default-clause-tool g c =
       inl (record {
         readings = λ source. absent;
         given = λ source. refl;
-        answer = answers.NotBuilt;
+        answer = answers.Usage;
         cause = refl;
-        counted = uncounted files files answers.NotBuilt (λ source e. cc) (λ source e. cc);
+        counted = uncounted files files answers.Usage (λ source e. cc) (λ source e. cc);
         delivered = c.refuse.ensures;
       }),
     )

@@ -1,0 +1,9 @@
+pub mod AcceptedLaws
+pub mod DecidedRuns
+pub mod FormLaws
+pub mod HonestLaws
+pub mod ListedLaws
+pub mod RejectedLaws
+pub mod Soundness
+pub mod ValueLaws
+pub mod VerdictLaws

@@ -1,0 +1,11 @@
+pub mod Accepted
+pub mod Forms
+pub mod Honest
+pub mod Judgements
+pub mod Meaning
+pub mod Ranges
+pub mod Rejected
+pub mod Runs
+pub mod Scan
+pub mod Texts
+pub mod Values

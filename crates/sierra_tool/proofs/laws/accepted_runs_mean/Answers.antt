@@ -1,5 +1,0 @@
-use Rattle.sierra_tool.proofs.Soundness.{soundness}
-use Rattle.sierra_tool.proofs.laws.accepted_runs_mean.Goals as goal
-
-pub returns : goal.returns
-returns c = λ program input rc m states verdict accepts. soundness program input rc m states accepts verdict

@@ -1,0 +1,34 @@
+-- What `run` writes: the run file of a run that is accepted, and whose verdict is the meaning.
+use Rattle.std.specs.Prelude.{ℕ, ◌≡◌, List, Some}
+use Rattle.edge_io.specs.Files.{FilesView}
+use Rattle.edge_io.specs.Sinks.{SinkView, WritesAll}
+use Rattle.first_form.specs.declared.program.Program.{Program}
+use Rattle.first_form.specs.declared.input.Input.{Input}
+use Rattle.first_form.specs.declared.verdict.Verdict.{Verdict}
+use Rattle.first_form.specs.Runs.{IsAccepted, IsVerdict}
+use Rattle.run_file.specs.declared.run.Run.{Run}
+use Rattle.sierra_tool.specs.declared.command.Command.TheVariants as commands
+use Rattle.sierra_tool.specs.declared.command.Execute.{Execute}
+use Rattle.sierra_tool.specs.Causes.{SourceReadings, AreReadings, IsRunFile, CanRun}
+use Rattle.sierra_tool.specs.Command.{IsCommand}
+
+-- a run file was written, and `check` accepts it with the program and the input that were read: its run is accepted, and
+-- the verdict that it shows is the meaning
+pub record WritesAcceptedRun (before : FilesView) (out written : SinkView) (execute : Execute) : Type 0 where
+  pub readings : SourceReadings
+  pub given : AreReadings before.contents (Some (commands.Run execute)) readings
+  pub program : Program
+  pub input : Input
+  pub start : CanRun readings program input
+  pub run : Run
+  pub file : List ℕ
+  pub written_whole : WritesAll out written file
+  pub is_file : IsRunFile file run
+  pub accepted : IsAccepted program input run
+  pub verdict : Verdict
+  pub is_verdict : IsVerdict program input run verdict
+
+-- where `run` ends with status 0
+abbrev pub RunsAreAccepted : List (List ℕ) → FilesView → SinkView → SinkView → ℕ → Type 0
+RunsAreAccepted arguments before out written status =
+    (execute : Execute) → IsCommand arguments (commands.Run execute) → status ≡ 0 → WritesAcceptedRun before out written execute
