@@ -1,9 +1,10 @@
 -- What reading answers, by what the reader on lists gives.
-use Rattle.std.proofs.Common.{◌≡◌, ◌≢◌, ◌↔◌, ℕ, ◌-◌, List, length, take, Option, None, Some, Ok, Err, refl, sym, ◌∙◌, ap, subst, inl, inr, ◌⊎◌, arith}
+use Rattle.std.proofs.Common.{◌≡◌, ◌≢◌, ◌↔◌, ℕ, ◌-◌, ◌^◌, List, length, take, Option, None, Some, Ok, Err, refl, sym, ◌∙◌, ap, subst, inl, inr, ◌⊎◌, arith}
 use Rattle.text_reading.specs.declared.stop.Stop.{Stop}
 use Rattle.text_reading.specs.declared.stop.Stop.TheVariants as stops
 use Rattle.text_reading.specs.Given.{Gives}
-use Rattle.text_reading.specs.Reading.{Answer.answers}
+use Rattle.std.proofs.lemmas.Bool.{cases_lt}
+use Rattle.text_reading.specs.Reading.{Answer, Answer.answers}
 use Rattle.text_reading.proofs.Limits.{Passes}
 use Rattle.text_reading.proofs.OnePlace.{one_place, front_is}
 use Rattle.text_reading.proofs.WholeReaders.{IsWhole, one_tree, whole_place, whole_limit}
@@ -30,6 +31,21 @@ not_both program short (inl (inl more)) = omega (arith, short.types)
 not_both program short (inl (inr more)) = omega (arith, short.libfuncs)
 not_both program short (inr (inl more)) = omega (arith, short.statements)
 not_both program short (inr (inr more)) = omega (arith, short.functions)
+
+short_or_long : (program : Program) → IsShort program ⊎ IsLong program
+short_or_long program = elim (cases_lt (2 ^ 16) (length program.types)) [
+  | inl more ↦ inr (inl (inl more))
+  | inr types ↦ elim (cases_lt (2 ^ 16) (length program.libfuncs)) [
+    | inl more ↦ inr (inl (inr more))
+    | inr libfuncs ↦ elim (cases_lt (2 ^ 20) (length program.statements)) [
+      | inl more ↦ inr (inr (inl more))
+      | inr statements ↦ elim (cases_lt (2 ^ 16) (length program.functions)) [
+        | inl more ↦ inr (inr (inr more))
+        | inr functions ↦ inl (record { types = omega arith; libfuncs = omega arith; statements = omega arith; functions = omega arith })
+      ]
+    ]
+  ]
+]
 
 -- ---- a text of a program
 
@@ -173,3 +189,35 @@ module _ (text rest : List ℕ) where
   stop_exact stops.Syntax read fault h = inl ((stopped None read).only fault h)
   stop_exact (stops.Limit kind) read fault h = inl ((stopped (Some kind) read).only fault h)
   stop_exact stops.Memory read fault h = inr refl
+
+-- ---- laws
+
+-- a text is refused for one reason, ..
+pub one_refusal : (text : List ℕ) (a b : TextFault) → Refused text a → Refused text b → a ≡ b
+one_refusal text a b h k = go (program_at standard text) refl
+  where
+    too_long : (fault : TextFault) → (faults.TooLong ≡ fault) ⊎ (faults.TooLong ≡ faults.Memory) → faults.TooLong ≡ fault
+    too_long fault (inl same) = same
+    too_long fault (inr clash) = absurd cc
+
+    go : (answer : Answer (Unit {0}) Program) → program_at standard text ≡ answer → a ≡ b
+    go (answers (Ok program) rest) read = sym (too_long a (long_refused text rest program read a h)) ∙ too_long b (long_refused text rest program read b k)
+    go (answers (Err why) rest) read = sym (only_refused text rest why read a h) ∙ only_refused text rest why read b k
+
+-- .. each text is refused or that of a short program, ..
+pub program_or_refusal : (text : List ℕ) → ((program : Program) × Text standard program text × IsShort program) ⊎ ((fault : TextFault) × Refused text fault)
+program_or_refusal text = go (program_at standard text) refl
+  where
+    by_length : (program : Program) → Text standard program text → ((program : Program) × Text standard program text × IsShort program) ⊎ ((fault : TextFault) × Refused text fault)
+    by_length program has = elim (short_or_long program) [
+      | inl short ↦ inl (program, has, short)
+      | inr long ↦ inr (faults.TooLong, (program, has, long))
+    ]
+
+    go : (answer : Answer (Unit {0}) Program) → program_at standard text ≡ answer → ((program : Program) × Text standard program text × IsShort program) ⊎ ((fault : TextFault) × Refused text fault)
+    go (answers (Ok program) rest) read = by_length program (read_program text rest program read)
+    go (answers (Err why) rest) read = inr (fault_of why (front text rest why read), stop_refused text rest why read)
+
+-- .. and not both
+pub never_both : (text : List ℕ) (program : Program) (fault : TextFault) → Refused text fault → Text standard program text → IsShort program → ⊥
+never_both text program fault refused has short = short_not_refused program text has short fault refused

@@ -1,11 +1,12 @@
 //! Laws about the definitions alone, which readers and writers rest on.
 
-ghost use Rattle.std.specs.Prelude.{◌≡◌, ℕ, List};
+ghost use Rattle.std.specs.Prelude.{◌≡◌, ◌⊎◌, ℕ, List};
 ghost use Rattle.sierra_types.specs.declared.program.Program.{Program};
+ghost use Rattle.sierra_text.specs.declared.fault.TextFault.{TextFault};
 ghost use Rattle.sierra_text.specs.Text.{Text, standard};
 ghost use Rattle.sierra_text.specs.AsciiNames.{HasAsciiNames};
 ghost use Rattle.sierra_text.specs.Layout.{layout};
-ghost use Rattle.sierra_text.specs.Refusals.{IsShort, ReadsAs};
+ghost use Rattle.sierra_text.specs.Refusals.{IsShort, Refused, ReadsAs};
 
 /// The text of a program is the text of no other.
 pub fn one_program()
@@ -30,4 +31,15 @@ pub fn printed_reads_back()
 /// Two programs that texts have are equal if their plain layouts are.
 pub fn one_layout()
     ensures { (one other : Program) (text other_text : List ℕ) → Text standard one text → Text standard other other_text → layout one ≡ layout other → one ≡ other }
+{}
+
+/// A text is refused for one reason.
+pub fn one_refusal()
+    ensures { (text : List ℕ) (a b : TextFault) → Refused text a → Refused text b → a ≡ b }
+{}
+
+/// Each text is that of a program with no more parts than a program may have, or it is refused, and never both.
+pub fn program_or_refusal()
+    ensures either { (text : List ℕ) → ((program : Program) × Text standard program text × IsShort program) ⊎ ((fault : TextFault) × Refused text fault) }
+    ensures not_both { (text : List ℕ) (program : Program) (fault : TextFault) → Refused text fault → Text standard program text → IsShort program → ⊥ }
 {}

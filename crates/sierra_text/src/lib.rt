@@ -23,6 +23,9 @@ mod reading;
 mod tests;
 
 pub use fault::TextFault;
-pub use laws::{names_are_ascii, one_layout, one_program, printed_is_text, printed_reads_back};
+pub use laws::{
+    names_are_ascii, one_layout, one_program, one_refusal, printed_is_text, printed_reads_back,
+    program_or_refusal,
+};
 pub use printing::print;
 pub use reading::read;

@@ -290,7 +290,7 @@ fn push_part<T: Plain>(text: &mut String, lines: &List<T>) -> Result<(), AllocEr
 /// The text of a program in the plain layout.
 ///
 /// Reading it gives the program again, where the program has a text at all and is no longer than a text may be. The
-/// time is linear in the length of the text, and the error is want of memory.
+/// time is linear in the length of the text, and the error is out of memory.
 pub fn print(alloc: Global, program: &Program) -> Result<String, AllocError>
     // So are the names of each program that a text has.
     requires { HasAsciiNames program.now }

@@ -20,7 +20,7 @@ impl Model for Name {
 }
 
 impl Name {
-    /// The name with these bytes, whichever they are. The error is want of memory.
+    /// The name with these bytes, whichever they are. The error is out of memory.
     pub fn new(alloc: Global, bytes: &[u8]) -> Result<Name, AllocError>
         ensures { IfOk result (λ name. name ≡ bytes.now) }
     {
