@@ -12,7 +12,7 @@ use crate::code::code_words;
 use crate::input::Input;
 use crate::program::Program;
 use felt64::Felt;
-use ro_machine::{InsertFault, Memory, State};
+use ro_machine::{Memory, State};
 use run_file::{Run, States};
 use std::alloc::{AllocError, Global};
 
@@ -83,22 +83,10 @@ fn list_words(memory: &mut Memory, start: Felt, words: &[Felt]) -> Result<(), Al
 {
     let mut addr = start;
     for word in words {
-        list_cell(memory, addr, *word)?;
+        memory.insert_new(addr, *word)?;
         addr = addr.add(Felt::from(1));
     }
     Ok(())
-}
-
-/// Lists a cell that isn't listed yet.
-fn list_cell(memory: &mut Memory, addr: Felt, word: Felt) -> Result<(), AllocError>
-    requires { get memory.old addr ≡ None }
-    ensures { OnOk result (memory.new ≡ insert memory.old addr word) }
-{
-    match memory.insert(addr, word) {
-        Ok(()) => Ok(()),
-        Err(InsertFault::Memory) => Err(AllocError),
-        Err(InsertFault::Differs { had: _ }) => unreachable!(),
-    }
 }
 
 #[cfg(test)]

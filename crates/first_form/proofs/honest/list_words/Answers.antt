@@ -17,7 +17,7 @@ loop-word-preserved c =
     let free = c.loop-word.invariant.free in
     let within : n < length words = omega arith in
     let next : c.add-addr.result ≡ addr + 1 = omega arith in
-    let new = c.in_ok-list_cell.ensures in
+    let new = c.in_ok-insert_new.ensures.ok in
     record {
       place = omega arith;
       free = subst (λ m. NoneFrom m c.add-addr.result) (sym new) (subst (NoneFrom (insert m addr word)) (sym next) (none_after m addr word free));
