@@ -1,5 +1,5 @@
 -- The work of assembling: the text of code, read and assembled.
-use Rattle.std.proofs.Common.{◌≡◌, ◌≢◌, ℕ, List, Option, Some, Result, Ok, Err, refl, sym, subst, inl, inr}
+use Rattle.std.proofs.Common.{List, Some, Ok, Err, refl, sym, subst, inl, inr}
 use Rattle.casm_word.specs.declared.instr.Instr.{Instr}
 use Rattle.edge_io.specs.Files.{FilesView}
 use Rattle.sierra_tool.specs.declared.answer.Answer.{Answer}

@@ -8,14 +8,13 @@ use Rattle.run_file.specs.Reading.{reading}
 use Rattle.run_file.proofs.Runs.{one_run, reads_exactly}
 use Rattle.sierra_tool.specs.declared.answer.Answer.{Answer}
 use Rattle.sierra_tool.specs.declared.answer.Answer.TheVariants as answers
-use Rattle.sierra_tool.specs.declared.command.Check.{Check}
 use Rattle.sierra_tool.specs.declared.command.Command.{Command}
 use Rattle.sierra_tool.specs.declared.command.Command.TheVariants as commands
 use Rattle.sierra_tool.specs.declared.command.Source.{Source}
 use Rattle.sierra_tool.specs.declared.command.Source.TheVariants as sources
 use Rattle.first_form.specs.declared.program.Program.{Program}
 use Rattle.first_form.specs.declared.input.Input.{Input}
-use Rattle.sierra_tool.specs.Causes.{Reading, absent, unread, found, SourceReadings, Holds, IsRunFile, HasProgram, HasInput, HasRun, CanRun, ComesTo, IsCasm, Cause}
+use Rattle.sierra_tool.specs.Causes.{Reading, absent, unread, found, SourceReadings, Holds, IsRunFile, IsTree, IsOfForm, HasProgram, HasInput, HasRun, CanRun, ComesTo, IsCasm, Cause}
 use Rattle.sierra_tool.specs.Command.{limit, IsRead}
 use Rattle.first_form.specs.Forms.{IsProgram, IsInput}
 use Rattle.felt64.specs.Field.{modulus}
@@ -32,9 +31,10 @@ use Rattle.first_form.specs.declared.judgement.Judgement.TheVariants as judgemen
 use Rattle.first_form.specs.Honest.{honest_run}
 use Rattle.first_form.specs.Judgements.{IsJudgement}
 use Rattle.run_file.specs.Spelling.{spelling}
-use Rattle.casm_text.specs.Refusals.{Refused}
-use Rattle.casm_text.specs.declared.fault.AsmFault.{AsmFault}
-use Rattle.sierra_tool.specs.Stages.{IsUnfit, IsRefused, NoProgram, NoInput, NoRun, NoCasm}
+use Rattle.sierra_text.specs.Layout.{layout}
+use Rattle.sierra_text.proofs.Refusing.{same_program as one_tree, one_refusal as one_text_fault, program_or_refusal, never_both as text_never_both}
+use Rattle.sierra_types.specs.declared.program.Program.{Program as Tree}
+use Rattle.sierra_tool.specs.Stages.{IsUnfit, IsRefused, NoTree, NoProgram, NoInput, NoRun, NoCasm}
 use Rattle.first_form.proofs.FormLaws.{one_program, one_input}
 use Rattle.first_form.proofs.VerdictLaws.{one_verdict, some_verdict}
 use Rattle.casm_text.proofs.Refusing.{one_code, one_refusal as one_asm_fault, code_or_refusal, never_both as never_refused}
@@ -126,6 +126,7 @@ of_run_once program input run a b p q = p.2 ∙ one_judgement program input run 
 abbrev AfterGas : Command → SourceReadings → Program → Input → Answer → Type 0
 AfterGas (commands.Check check) readings program input answer = Stage sources.Run NoRun IsRunFile (OfRun program input) (readings sources.Run) answer
 AfterGas (commands.Run execute) readings program input answer = (file : List ℕ) × (file ≡ spelling (honest_run program input)) × (answer ≡ answers.Ran file)
+AfterGas (commands.Show show) readings program input answer = ⊥
 AfterGas (commands.Asm assemble) readings program input answer = ⊥
 AfterGas commands.Planned readings program input answer = ⊥
 
@@ -136,9 +137,15 @@ AfterInput command readings program input answer =
 abbrev AfterProgram : Command → SourceReadings → Program → Answer → Type 0
 AfterProgram command readings program = Stage sources.Input (NoInput program) (IsInput program) (AfterInput command readings program) (readings sources.Input)
 
--- the stages of a command that reads a program
+-- the stages of a command that starts a run
 abbrev Starting : Command → SourceReadings → Answer → Type 0
-Starting command readings = Stage sources.Program NoProgram IsProgram (AfterProgram command readings) (readings sources.Program)
+Starting command readings = Stage sources.Program NoProgram IsOfForm (AfterProgram command readings) (readings sources.Program)
+
+abbrev OfTree : Tree → Answer → Type 0
+OfTree tree answer = (text : List ℕ) × (text ≡ layout tree) × (answer ≡ answers.Printed text)
+
+abbrev Showing : SourceReadings → Answer → Type 0
+Showing readings = Stage sources.Program NoTree IsTree OfTree (readings sources.Program)
 
 abbrev OfCode : List Instr → Answer → Type 0
 OfCode code answer = answer ≡ answers.Assembled code
@@ -149,6 +156,7 @@ Assembling readings = Stage sources.Casm NoCasm IsCasm OfCode (readings sources.
 abbrev Ordered : Command → SourceReadings → Answer → Type 0
 Ordered (commands.Check check) readings answer = Starting (commands.Check check) readings answer
 Ordered (commands.Run execute) readings answer = Starting (commands.Run execute) readings answer
+Ordered (commands.Show show) readings answer = Showing readings answer
 Ordered (commands.Asm assemble) readings answer = Assembling readings answer
 Ordered commands.Planned readings answer = answer ≡ answers.NotBuilt
 
@@ -163,6 +171,7 @@ after_gas_once (commands.Check check) readings program input a b p q =
     (λ bytes p q p_is q_is. one_run p q p_is.0 q_is.0 (sym p_is.1 ∙ q_is.1))
     (of_run_once program input) (readings sources.Run) a b p q
 after_gas_once (commands.Run execute) readings program input a b p q = p.2 ∙ ap answers.Ran (p.1 ∙ sym q.1) ∙ sym q.2
+after_gas_once (commands.Show show) readings program input a b p q = absurd p
 after_gas_once (commands.Asm assemble) readings program input a b p q = absurd p
 after_gas_once commands.Planned readings program input a b p q = absurd p
 
@@ -178,11 +187,42 @@ after_program_once command readings program =
     (λ bytes a b p q. p.1 ∙ sym q.1) (λ bytes a input p q. p.0 input q) (one_input program)
     (after_input_once command readings program) (readings sources.Input)
 
+-- a text has one fault, or one tree, and of that one form
+no_tree_once : (text : List ℕ) (a b : Answer) → NoTree text a → NoTree text b → a ≡ b
+no_tree_once text a b p q = p.2 ∙ ap answers.TextRefused (one_text_fault text p.0 q.0 p.1 q.1) ∙ sym q.2
+
+never_tree : (text : List ℕ) (a : Answer) (tree : Tree) → NoTree text a → IsTree text tree → ⊥
+never_tree text a tree p q = text_never_both text tree p.0 p.1 q.0 q.1
+
+same_tree : (text : List ℕ) (a b : Tree) → IsTree text a → IsTree text b → a ≡ b
+same_tree text a b p q = one_tree text a b p.0 q.0
+
+no_program_once : (text : List ℕ) (a b : Answer) → NoProgram text a → NoProgram text b → a ≡ b
+no_program_once text a b (inl p) (inl q) = no_tree_once text a b p q
+no_program_once text a b (inl p) (inr q) = absurd (never_tree text a q.0.0 p q.0.1)
+no_program_once text a b (inr p) (inl q) = absurd (never_tree text b p.0.0 q p.0.1)
+no_program_once text a b (inr p) (inr q) = p.1 ∙ sym q.1
+
+never_program : (text : List ℕ) (a : Answer) (program : Program) → NoProgram text a → IsOfForm text program → ⊥
+never_program text a program (inl p) q = never_tree text a q.0 p q.1
+never_program text a program (inr p) q =
+    p.0.2 program (subst (λ (tree : Tree). IsProgram (layout tree) program) (same_tree text q.0 p.0.0 q.1 p.0.1) q.2)
+
+one_of_form : (text : List ℕ) (a b : Program) → IsOfForm text a → IsOfForm text b → a ≡ b
+one_of_form text a b p q =
+    one_program (layout q.0) a b (subst (λ (tree : Tree). IsProgram (layout tree) a) (same_tree text p.0 q.0 p.1 q.1) p.2) q.2
+
 starting_once : (command : Command) (readings : SourceReadings) (a b : Answer) → Starting command readings a → Starting command readings b → a ≡ b
 starting_once command readings =
-    stage_once sources.Program NoProgram IsProgram (AfterProgram command readings)
-    (λ bytes a b p q. p.1 ∙ sym q.1) (λ bytes a program p q. p.0 program q) one_program
+    stage_once sources.Program NoProgram IsOfForm (AfterProgram command readings)
+    no_program_once never_program one_of_form
     (after_program_once command readings) (readings sources.Program)
+
+showing_once : (readings : SourceReadings) (a b : Answer) → Showing readings a → Showing readings b → a ≡ b
+showing_once readings =
+    stage_once sources.Program NoTree IsTree OfTree
+    no_tree_once never_tree same_tree
+    (λ tree a b p q. p.2 ∙ ap answers.Printed (p.1 ∙ sym q.1) ∙ sym q.2) (readings sources.Program)
 
 assembling_once : (readings : SourceReadings) (a b : Answer) → Assembling readings a → Assembling readings b → a ≡ b
 assembling_once readings =
@@ -195,23 +235,31 @@ assembling_once readings =
 ordered_once : (command : Command) (readings : SourceReadings) (a b : Answer) → Ordered command readings a → Ordered command readings b → a ≡ b
 ordered_once (commands.Check check) readings = starting_once (commands.Check check) readings
 ordered_once (commands.Run execute) readings = starting_once (commands.Run execute) readings
+ordered_once (commands.Show show) readings = showing_once readings
 ordered_once (commands.Asm assemble) readings = assembling_once readings
 ordered_once commands.Planned readings = λ a b p q. p ∙ sym q
 
 -- ---- Causes by the stages
 
--- a command that reads a program, an input, a run or code goes by the stages of such a command
-reads_program : (command : Command) (readings : SourceReadings) (a : Answer) → IsRead command sources.Program → Starting command readings a → Ordered command readings a
-reads_program (commands.Check check) readings a is p = p
-reads_program (commands.Run execute) readings a is p = p
-reads_program (commands.Asm assemble) readings a is p = absurd cc
-reads_program commands.Planned readings a is p = absurd cc
-
+-- a command that reads an input, a run or code goes by the stages of such a command
 reads_input : (command : Command) (readings : SourceReadings) (a : Answer) → IsRead command sources.Input → Starting command readings a → Ordered command readings a
 reads_input (commands.Check check) readings a is p = p
 reads_input (commands.Run execute) readings a is p = p
+reads_input (commands.Show show) readings a is p = absurd cc
 reads_input (commands.Asm assemble) readings a is p = absurd cc
 reads_input commands.Planned readings a is p = absurd cc
+
+-- a program that is unfit or no text is refused by each command that reads one
+pub as_program : (given : Reading) (a : Answer) → IsRefused sources.Program NoTree given a → IsRefused sources.Program NoProgram given a
+as_program given a (inl unfit) = inl unfit
+as_program given a (inr held) = inr (held.0, held.1, held.2, inl held.3)
+
+no_text_ordered : (command : Command) (readings : SourceReadings) (a : Answer) → IsRead command sources.Program → IsRefused sources.Program NoTree (readings sources.Program) a → Ordered command readings a
+no_text_ordered (commands.Check check) readings a is p = inl (as_program (readings sources.Program) a p)
+no_text_ordered (commands.Run execute) readings a is p = inl (as_program (readings sources.Program) a p)
+no_text_ordered (commands.Show show) readings a is p = inl p
+no_text_ordered (commands.Asm assemble) readings a is p = absurd cc
+no_text_ordered commands.Planned readings a is p = absurd cc
 
 -- .. from the program and the input on to the run
 abbrev RunStage : SourceReadings → Program → Input → Answer → Type 0
@@ -220,18 +268,20 @@ RunStage readings program input = Stage sources.Run NoRun IsRunFile (OfRun progr
 reads_run : (command : Command) (readings : SourceReadings) (program : Program) (input : Input) (a : Answer) → IsRead command sources.Run → CanRun readings program input → RunStage readings program input a → Ordered command readings a
 reads_run (commands.Check check) readings program input a is can p = inr (program, can.program_read, inr (input, can.input_read, inr (can.gas, p)))
 reads_run (commands.Run execute) readings program input a is can p = absurd cc
+reads_run (commands.Show show) readings program input a is can p = absurd cc
 reads_run (commands.Asm assemble) readings program input a is can p = absurd cc
 reads_run commands.Planned readings program input a is can p = absurd cc
 
 reads_casm : (command : Command) (readings : SourceReadings) (a : Answer) → IsRead command sources.Casm → Assembling readings a → Ordered command readings a
 reads_casm (commands.Check check) readings a is p = absurd cc
 reads_casm (commands.Run execute) readings a is p = absurd cc
+reads_casm (commands.Show show) readings a is p = absurd cc
 reads_casm (commands.Asm assemble) readings a is p = p
 reads_casm commands.Planned readings a is p = absurd cc
 
 -- a source that a command comes to and that is unfit
 unfit_ordered : (command : Command) (readings : SourceReadings) (source : Source) (a : Answer) → ComesTo command readings source → IsUnfit source (readings source) a → Ordered command readings a
-unfit_ordered command readings sources.Program a comes unfit = reads_program command readings a comes (inl (inl unfit))
+unfit_ordered command readings sources.Program a comes unfit = no_text_ordered command readings a comes (inl unfit)
 unfit_ordered command readings sources.Input a comes unfit = reads_input command readings a comes.0 (inr (comes.1, comes.2, inl (inl unfit)))
 unfit_ordered command readings sources.Run a comes unfit = reads_run command readings comes.1 comes.2 a comes.0 comes.3 (inl (inl unfit))
 unfit_ordered command readings sources.Casm a comes unfit = reads_casm command readings a comes (inl (inl unfit))
@@ -246,8 +296,11 @@ ordered command readings (answers.Missing source) c = unfit_ordered command read
 ordered command readings (answers.ReadFault source) c = unfit_ordered command readings source (answers.ReadFault source) c.0 (inr (inl (c.1, refl)))
 ordered command readings (answers.TooLong source) c = unfit_ordered command readings source (answers.TooLong source) c.0 (inr (inr (c.1, refl)))
 ordered command readings answers.NotBuilt (inl p) = subst (λ (c : Command). Ordered c readings answers.NotBuilt) (sym p) refl
-ordered command readings answers.NotBuilt (inr (inl p)) = reads_program command readings answers.NotBuilt p.0 (inl (inr (p.1.0, p.1.1, p.1.2, (p.1.3, refl))))
+ordered command readings answers.NotBuilt (inr (inl p)) = reads_input command readings answers.NotBuilt p.0 (inl (inr (p.1.0, p.1.1, p.1.2, inr (p.1.3, refl))))
 ordered command readings answers.NotBuilt (inr (inr p)) = reads_input command readings answers.NotBuilt p.0 (inr (p.1, p.2, inl (inr (p.3.0, p.3.1, p.3.2, (p.3.3, refl)))))
+ordered command readings (answers.TextRefused fault) c =
+    let held = c.1 in
+    no_text_ordered command readings (answers.TextRefused fault) c.0 (inr (held.0, held.1, held.2, (fault, held.3, refl)))
 ordered command readings (answers.CasmRefused fault) c =
     let held = c.1 in
     reads_casm command readings (answers.CasmRefused fault) c.0 (inl (inr (held.0, held.1, held.2, (fault, held.3, refl))))
@@ -265,6 +318,8 @@ ordered command readings (answers.Ran file) c =
     let can = c.4 in
     subst (λ (c : Command). Ordered c readings (answers.Ran file)) (sym c.1)
     (inr (c.2, can.program_read, inr (c.3, can.input_read, inr (can.gas, (file, c.5, refl)))))
+ordered command readings (answers.Printed text) c =
+    subst (λ (c : Command). Ordered c readings (answers.Printed text)) (sym c.1) (inr (c.2, c.3, (text, c.4, refl)))
 ordered command readings (answers.Assembled code) c =
     reads_casm command readings (answers.Assembled code) c.0 (inr (code, c.1, refl))
 
@@ -323,9 +378,17 @@ module _ (command : Command) (readings : SourceReadings)
     no_input reads more program has = held sources.Input (reads, program, has) (λ text is within.
         none answers.NotBuilt (inr (inr (reads, program, has, (text, is, within, λ input is_input. no_gas reads more program input has (text, is, within, is_input))))))
 
+    -- .. a text is refused or that of a tree, ..
+    no_tree : IsRead command sources.Program → ((tree : Tree) (text : List ℕ) → readings sources.Program ≡ found text → length text ≤ limit sources.Program → IsTree text tree → ⊥) → ⊥
+    no_tree reads more = held sources.Program reads (λ text is within. elim (program_or_refusal text) [
+      | inl tree ↦ more tree.0 text is within (tree.1, tree.2)
+      | inr refused ↦ none (answers.TextRefused refused.0) (reads, (text, is, within, refused.1))
+    ])
+
+    -- .. it is of no form that is built, or it can be run, ..
     no_program : IsRead command sources.Program → IsRead command sources.Input → ((program : Program) (input : Input) → CanRun readings program input → ⊥) → ⊥
-    no_program reads reads_input more = held sources.Program reads (λ text is within.
-        none answers.NotBuilt (inr (inl (reads, (text, is, within, λ program is_program. no_input reads_input more program (text, is, within, is_program))))))
+    no_program reads reads_input more = no_tree reads (λ tree text is within sierra.
+        none answers.NotBuilt (inr (inl (reads_input, (text, is, within, (tree, sierra, λ program is_program. no_input reads_input more program (text, is, within, (tree, sierra, is_program))))))))
 
     -- .. and of code
     no_casm : IsRead command sources.Casm → ⊥
@@ -341,5 +404,8 @@ some_answer (Some (commands.Check check)) readings small none =
 some_answer (Some (commands.Run execute)) readings small none =
     no_program (commands.Run execute) readings small none refl refl
     (λ program input can. none (answers.Ran (spelling (honest_run program input))) (execute, refl, program, input, can, refl))
+some_answer (Some (commands.Show show)) readings small none =
+    no_tree (commands.Show show) readings small none refl
+    (λ tree text is within sierra. none (answers.Printed (layout tree)) (show, refl, tree, (text, is, within, sierra), refl))
 some_answer (Some (commands.Asm assemble)) readings small none = no_casm (commands.Asm assemble) readings small none refl
 some_answer (Some commands.Planned) readings small none = none answers.NotBuilt (inl refl)

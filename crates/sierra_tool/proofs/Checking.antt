@@ -1,5 +1,5 @@
 -- A check behind what its run starts from: the run file, and the judgement of the run.
-use Rattle.std.proofs.Common.{◌≡◌, ◌≢◌, ℕ, ◌≤◌, List, Option, Some, Result, Ok, Err, refl, sym, subst, inl, inr}
+use Rattle.std.proofs.Common.{Some, Ok, Err, refl, sym, subst, inl, inr}
 use Rattle.edge_io.specs.Files.{FilesView}
 use Rattle.first_form.specs.declared.judgement.Judgement.{Judgement}
 use Rattle.first_form.specs.declared.judgement.Judgement.TheVariants as judgements

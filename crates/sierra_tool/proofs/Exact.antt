@@ -16,10 +16,9 @@ use Rattle.sierra_tool.specs.declared.command.Source.{Source}
 use Rattle.sierra_tool.specs.declared.command.Source.TheVariants as sources
 use Rattle.first_form.specs.declared.program.Program.{Program}
 use Rattle.first_form.specs.declared.input.Input.{Input}
-use Rattle.sierra_tool.specs.Causes.{Reading, absent, unread, found, SourceReadings, Gives, AreReadings, Holds, CanRun, ComesTo, Cause}
-use Rattle.first_form.specs.Forms.{IsProgram}
+use Rattle.sierra_tool.specs.Causes.{Reading, absent, unread, found, SourceReadings, Gives, AreReadings, Holds, IsOfForm, CanRun, ComesTo, Cause}
 use Rattle.sierra_tool.specs.Command.{IsPlanned, IsCommand, Parses, name_of, IsRead, status_of}
-use Rattle.sierra_tool.specs.Exact.{reading_of, readings_of, HasStart, HasRunThat, HasCasm, HasExactStatus, IsExact}
+use Rattle.sierra_tool.specs.Exact.{reading_of, readings_of, HasStart, HasRunThat, HasText, HasCasm, HasExactStatus, IsExact}
 use Rattle.sierra_tool.specs.Tool.{Tool}
 use Rattle.felt64.specs.Field.{modulus}
 use Rattle.first_form.specs.Meaning.{code_of}
@@ -27,6 +26,8 @@ use Rattle.first_form.specs.Runs.{IsAccepted}
 use Rattle.sierra_tool.specs.declared.command.Assemble.{Assemble}
 use Rattle.sierra_tool.specs.declared.command.Check.{Check}
 use Rattle.sierra_tool.specs.declared.command.Execute.{Execute}
+use Rattle.sierra_tool.specs.declared.command.Show.{Show}
+use Rattle.sierra_text.specs.Layout.{layout}
 use Rattle.first_form.specs.Honest.{honest_run}
 use Rattle.run_file.specs.Spelling.{spelling}
 use Rattle.sierra_tool.proofs.Causes.{one_answer, never_accepted}
@@ -45,6 +46,7 @@ holds_over source is given other agrees held = (held.0, agrees (λ e. cc (held.1
 module _ (command other : Command) (readings others : SourceReadings)
     (same : (source : Source) → name_of (Some command) source ≡ name_of (Some other) source)
     (as_planned : command ≡ commands.Planned → other ≡ commands.Planned)
+    (as_show : (show : Show) → command ≡ commands.Show show → (another : Show) × (other ≡ commands.Show another))
     (as_run : (execute : Execute) → command ≡ commands.Run execute → (another : Execute) × (other ≡ commands.Run another))
     (agrees : Agrees readings others)
   where
@@ -60,7 +62,7 @@ module _ (command other : Command) (readings others : SourceReadings)
 
     comes_over : (source : Source) → ComesTo command readings source → ComesTo other others source
     comes_over sources.Program comes = read_over sources.Program comes
-    comes_over sources.Input comes = (read_over sources.Input comes.0, comes.1, held_over sources.Program (λ text. IsProgram text comes.1) comes.2)
+    comes_over sources.Input comes = (read_over sources.Input comes.0, comes.1, held_over sources.Program (λ text. IsOfForm text comes.1) comes.2)
     comes_over sources.Run comes = (read_over sources.Run comes.0, comes.1, comes.2, can_over comes.1 comes.2 comes.3)
     comes_over sources.Casm comes = read_over sources.Casm comes
 
@@ -72,8 +74,9 @@ module _ (command other : Command) (readings others : SourceReadings)
         let long = c.1 in
         (comes_over source c.0, (long.0, agrees source (λ e. cc (long.1)) ∙ long.1, long.2))
     cause_over answers.NotBuilt calm (inl c) = inl (as_planned c)
-    cause_over answers.NotBuilt calm (inr (inl c)) = inr (inl (read_over sources.Program c.0, held_over sources.Program _ c.1))
+    cause_over answers.NotBuilt calm (inr (inl c)) = inr (inl (read_over sources.Input c.0, held_over sources.Program _ c.1))
     cause_over answers.NotBuilt calm (inr (inr c)) = inr (inr (read_over sources.Input c.0, c.1, held_over sources.Program _ c.2, held_over sources.Input _ c.3))
+    cause_over (answers.TextRefused fault) calm c = (read_over sources.Program c.0, held_over sources.Program _ c.1)
     cause_over (answers.CasmRefused fault) calm c = (read_over sources.Casm c.0, held_over sources.Casm _ c.1)
     cause_over (answers.NotEnoughGas need given) calm c =
         (read_over sources.Input c.0, c.1, c.2, held_over sources.Program _ c.3, held_over sources.Input _ c.4, c.5, c.6, c.7)
@@ -81,12 +84,14 @@ module _ (command other : Command) (readings others : SourceReadings)
     cause_over (answers.RunRejected fault) calm c = (read_over sources.Run c.0, c.1, c.2, c.3, can_over c.1 c.2 c.4, held_over sources.Run _ c.5, c.6)
     cause_over (answers.Judged verdict) calm c = (read_over sources.Run c.0, c.1, c.2, c.3, can_over c.1 c.2 c.4, held_over sources.Run _ c.5, c.6, c.7)
     cause_over (answers.Ran file) calm c = let run = as_run c.0 c.1 in (run.0, run.1, c.2, c.3, can_over c.2 c.3 c.4, c.5)
+    cause_over (answers.Printed text) calm c = let show = as_show c.0 c.1 in (show.0, show.1, c.2, held_over sources.Program _ c.3, c.4)
     cause_over (answers.Assembled code) calm c = (read_over sources.Casm c.0, held_over sources.Casm _ c.1)
 
 -- the same arguments are one kind of command, with the same names
 pub record Alike (command other : Command) : Type 0 where
   pub names : (source : Source) → name_of (Some command) source ≡ name_of (Some other) source
   pub planned : command ≡ commands.Planned → other ≡ commands.Planned
+  pub show : (show : Show) → command ≡ commands.Show show → (another : Show) × (other ≡ commands.Show another)
   pub run : (execute : Execute) → command ≡ commands.Run execute → (another : Execute) × (other ≡ commands.Run another)
 
 -- the first argument is one word
@@ -103,60 +108,77 @@ built_not_planned : (arguments : List (List ℕ)) (command : Command) → comman
 built_not_planned [] command built is planned = planned
 built_not_planned (word ∷ others) (commands.Check check) built is (inl p) = two_words word (codes "check") (codes "compile") others _ is p.0 refl
 built_not_planned (word ∷ others) (commands.Check check) built is (inr (inl p)) = two_words word (codes "check") (codes "gas") others _ is p.0 refl
-built_not_planned (word ∷ others) (commands.Check check) built is (inr (inr (inl p))) = two_words word (codes "check") (codes "show") others _ is p.0 refl
-built_not_planned (word ∷ others) (commands.Check check) built is (inr (inr (inr (inl p)))) = two_words word (codes "check") (codes "eval") others _ is p.0 refl
-built_not_planned (word ∷ others) (commands.Check check) built is (inr (inr (inr (inr (inl p))))) = two_words word (codes "check") (codes "run") others _ is p.0 refl
-built_not_planned (word ∷ others) (commands.Check check) built is (inr (inr (inr (inr (inr p))))) = two_words word (codes "check") (codes "make") others _ is p.0 refl
+built_not_planned (word ∷ others) (commands.Check check) built is (inr (inr (inl p))) = two_words word (codes "check") (codes "eval") others _ is p.0 refl
+built_not_planned (word ∷ others) (commands.Check check) built is (inr (inr (inr (inl p)))) = two_words word (codes "check") (codes "run") others _ is p.0 refl
+built_not_planned (word ∷ others) (commands.Check check) built is (inr (inr (inr (inr p)))) = two_words word (codes "check") (codes "make") others _ is p.0 refl
 built_not_planned (word ∷ others) (commands.Run execute) built is (inl p) = two_words word (codes "run") (codes "compile") others _ is p.0 refl
 built_not_planned (word ∷ others) (commands.Run execute) built is (inr (inl p)) = two_words word (codes "run") (codes "gas") others _ is p.0 refl
-built_not_planned (word ∷ others) (commands.Run execute) built is (inr (inr (inl p))) = two_words word (codes "run") (codes "show") others _ is p.0 refl
-built_not_planned (word ∷ others) (commands.Run execute) built is (inr (inr (inr (inl p)))) = two_words word (codes "run") (codes "eval") others _ is p.0 refl
-built_not_planned (word ∷ others) (commands.Run execute) built is (inr (inr (inr (inr (inl p))))) =
+built_not_planned (word ∷ others) (commands.Run execute) built is (inr (inr (inl p))) = two_words word (codes "run") (codes "eval") others _ is p.0 refl
+built_not_planned (word ∷ others) (commands.Run execute) built is (inr (inr (inr (inl p)))) =
     let three : length (word ∷ others) ≡ 3 = ap length is in absurd (omega (arith, p.1, three))
-built_not_planned (word ∷ others) (commands.Run execute) built is (inr (inr (inr (inr (inr p))))) = two_words word (codes "run") (codes "make") others _ is p.0 refl
+built_not_planned (word ∷ others) (commands.Run execute) built is (inr (inr (inr (inr p)))) = two_words word (codes "run") (codes "make") others _ is p.0 refl
+built_not_planned (word ∷ others) (commands.Show show) built is (inl p) = two_words word (codes "show") (codes "compile") others _ is p.0 refl
+built_not_planned (word ∷ others) (commands.Show show) built is (inr (inl p)) = two_words word (codes "show") (codes "gas") others _ is p.0 refl
+built_not_planned (word ∷ others) (commands.Show show) built is (inr (inr (inl p))) = two_words word (codes "show") (codes "eval") others _ is p.0 refl
+built_not_planned (word ∷ others) (commands.Show show) built is (inr (inr (inr (inl p)))) = two_words word (codes "show") (codes "run") others _ is p.0 refl
+built_not_planned (word ∷ others) (commands.Show show) built is (inr (inr (inr (inr p)))) = two_words word (codes "show") (codes "make") others _ is p.0 refl
 built_not_planned (word ∷ others) (commands.Asm assemble) built is (inl p) = two_words word (codes "asm") (codes "compile") others _ is p.0 refl
 built_not_planned (word ∷ others) (commands.Asm assemble) built is (inr (inl p)) = two_words word (codes "asm") (codes "gas") others _ is p.0 refl
-built_not_planned (word ∷ others) (commands.Asm assemble) built is (inr (inr (inl p))) = two_words word (codes "asm") (codes "show") others _ is p.0 refl
-built_not_planned (word ∷ others) (commands.Asm assemble) built is (inr (inr (inr (inl p)))) = two_words word (codes "asm") (codes "eval") others _ is p.0 refl
-built_not_planned (word ∷ others) (commands.Asm assemble) built is (inr (inr (inr (inr (inl p))))) = two_words word (codes "asm") (codes "run") others _ is p.0 refl
-built_not_planned (word ∷ others) (commands.Asm assemble) built is (inr (inr (inr (inr (inr p))))) = two_words word (codes "asm") (codes "make") others _ is p.0 refl
+built_not_planned (word ∷ others) (commands.Asm assemble) built is (inr (inr (inl p))) = two_words word (codes "asm") (codes "eval") others _ is p.0 refl
+built_not_planned (word ∷ others) (commands.Asm assemble) built is (inr (inr (inr (inl p)))) = two_words word (codes "asm") (codes "run") others _ is p.0 refl
+built_not_planned (word ∷ others) (commands.Asm assemble) built is (inr (inr (inr (inr p)))) = two_words word (codes "asm") (codes "make") others _ is p.0 refl
 built_not_planned (word ∷ others) commands.Planned built is p = built refl
 
 pub alike : (arguments : List (List ℕ)) (command other : Command) → IsCommand arguments command → IsCommand arguments other → Alike command other
-alike arguments (commands.Check check) (commands.Check other) p q = record { names = names; planned = λ e. absurd cc; run = λ execute e. absurd cc }
+alike arguments (commands.Check check) (commands.Check other) p q = record { names = names; planned = λ e. absurd cc; show = λ show e. absurd cc; run = λ execute e. absurd cc }
   where
     names : (source : Source) → name_of (Some (commands.Check check)) source ≡ name_of (Some (commands.Check other)) source
     names sources.Program = cc
     names sources.Input = cc
     names sources.Run = cc
     names sources.Casm = refl
-alike arguments (commands.Run execute) (commands.Run other) p q = record { names = names; planned = λ e. absurd cc; run = λ execute e. (other, refl) }
+alike arguments (commands.Run execute) (commands.Run other) p q = record { names = names; planned = λ e. absurd cc; show = λ show e. absurd cc; run = λ execute e. (other, refl) }
   where
     names : (source : Source) → name_of (Some (commands.Run execute)) source ≡ name_of (Some (commands.Run other)) source
     names sources.Program = cc
     names sources.Input = cc
     names sources.Run = refl
     names sources.Casm = refl
-alike arguments (commands.Asm assemble) (commands.Asm other) p q = record { names = names; planned = λ e. absurd cc; run = λ execute e. absurd cc }
+alike arguments (commands.Show show) (commands.Show other) p q = record { names = names; planned = λ e. absurd cc; show = λ show e. (other, refl); run = λ execute e. absurd cc }
+  where
+    names : (source : Source) → name_of (Some (commands.Show show)) source ≡ name_of (Some (commands.Show other)) source
+    names sources.Program = cc
+    names sources.Input = refl
+    names sources.Run = refl
+    names sources.Casm = refl
+alike arguments (commands.Asm assemble) (commands.Asm other) p q = record { names = names; planned = λ e. absurd cc; show = λ show e. absurd cc; run = λ execute e. absurd cc }
   where
     names : (source : Source) → name_of (Some (commands.Asm assemble)) source ≡ name_of (Some (commands.Asm other)) source
     names sources.Program = refl
     names sources.Input = refl
     names sources.Run = refl
     names sources.Casm = cc
-alike arguments commands.Planned commands.Planned p q = record { names = λ source. refl; planned = λ e. refl; run = λ execute e. absurd cc }
+alike arguments commands.Planned commands.Planned p q = record { names = λ source. refl; planned = λ e. refl; show = λ show e. absurd cc; run = λ execute e. absurd cc }
 alike arguments commands.Planned (commands.Check check) p q = absurd (built_not_planned arguments (commands.Check check) (λ e. cc) q p)
-alike arguments commands.Planned (commands.Run execute) p q = absurd (built_not_planned arguments (commands.Run execute) (λ e. cc) q p)
-alike arguments commands.Planned (commands.Asm assemble) p q = absurd (built_not_planned arguments (commands.Asm assemble) (λ e. cc) q p)
 alike arguments (commands.Check check) commands.Planned p q = absurd (built_not_planned arguments (commands.Check check) (λ e. cc) p q)
+alike arguments commands.Planned (commands.Run execute) p q = absurd (built_not_planned arguments (commands.Run execute) (λ e. cc) q p)
 alike arguments (commands.Run execute) commands.Planned p q = absurd (built_not_planned arguments (commands.Run execute) (λ e. cc) p q)
+alike arguments commands.Planned (commands.Show show) p q = absurd (built_not_planned arguments (commands.Show show) (λ e. cc) q p)
+alike arguments (commands.Show show) commands.Planned p q = absurd (built_not_planned arguments (commands.Show show) (λ e. cc) p q)
+alike arguments commands.Planned (commands.Asm assemble) p q = absurd (built_not_planned arguments (commands.Asm assemble) (λ e. cc) q p)
 alike arguments (commands.Asm assemble) commands.Planned p q = absurd (built_not_planned arguments (commands.Asm assemble) (λ e. cc) p q)
 alike arguments (commands.Check check) (commands.Run execute) p q = absurd cc
+alike arguments (commands.Check check) (commands.Show show) p q = absurd cc
 alike arguments (commands.Check check) (commands.Asm assemble) p q = absurd cc
 alike arguments (commands.Run execute) (commands.Check check) p q = absurd cc
+alike arguments (commands.Run execute) (commands.Show show) p q = absurd cc
 alike arguments (commands.Run execute) (commands.Asm assemble) p q = absurd cc
+alike arguments (commands.Show show) (commands.Check check) p q = absurd cc
+alike arguments (commands.Show show) (commands.Run execute) p q = absurd cc
+alike arguments (commands.Show show) (commands.Asm assemble) p q = absurd cc
 alike arguments (commands.Asm assemble) (commands.Check check) p q = absurd cc
 alike arguments (commands.Asm assemble) (commands.Run execute) p q = absurd cc
+alike arguments (commands.Asm assemble) (commands.Show show) p q = absurd cc
 
 same_names : (arguments : List (List ℕ)) (command other : Option Command) → Parses arguments command → Parses arguments other → (source : Source) → name_of command source ≡ name_of other source
 same_names arguments None None p q source = refl
@@ -170,7 +192,7 @@ same_cause arguments None (Some other) readings others answer p q agrees calm c 
 same_cause arguments (Some command) None readings others answer p q agrees calm c = absurd (q command p)
 same_cause arguments (Some command) (Some other) readings others answer p q agrees calm c =
     let same = alike arguments command other p q in
-    cause_over command other readings others same.names same.planned same.run agrees answer calm c
+    cause_over command other readings others same.names same.planned same.show same.run agrees answer calm c
 
 -- arguments that are a run are no other command, and no run of other names
 pub run_alone : (arguments : List (List ℕ)) (command : Option Command) (execute : Execute) → Parses arguments command → IsCommand arguments (commands.Run execute) → (another : Execute) × (command ≡ Some (commands.Run another)) × IsCommand arguments (commands.Run another)
@@ -201,12 +223,14 @@ known_agrees arguments files command other readings p q given source read =
 zero_accepted : (check : Check) (readings : SourceReadings) (answer : Answer) → status_of answer ≡ 0 → Cause (Some (commands.Check check)) readings answer → HasRunThat readings IsAccepted
 zero_accepted check readings (answers.Judged verdict) e c = (c.1, c.2, c.3, c.4, c.5, c.6)
 zero_accepted check readings (answers.Ran file) e c = absurd (cc (c.1))
+zero_accepted check readings (answers.Printed text) e c = absurd (cc (c.1))
 zero_accepted check readings (answers.Assembled code) e c = absurd (cc (c.0))
 zero_accepted check readings answers.Usage e c = absurd c
 zero_accepted check readings (answers.Missing source) e c = absurd (omega (arith, e))
 zero_accepted check readings (answers.ReadFault source) e c = absurd (omega (arith, e))
 zero_accepted check readings (answers.TooLong source) e c = absurd (omega (arith, e))
 zero_accepted check readings answers.NotBuilt e c = absurd (omega (arith, e))
+zero_accepted check readings (answers.TextRefused fault) e c = absurd (omega (arith, e))
 zero_accepted check readings (answers.CasmRefused fault) e c = absurd (omega (arith, e))
 zero_accepted check readings (answers.NotEnoughGas need given) e c = absurd (omega (arith, e))
 zero_accepted check readings (answers.RunRefused refusal) e c = absurd (omega (arith, e))
@@ -217,27 +241,48 @@ pub zero_ran : (execute : Execute) (readings : SourceReadings) (answer : Answer)
     → (file : List ℕ) × (answer ≡ answers.Ran file) × (program : Program) × (input : Input) × CanRun readings program input × (file ≡ spelling (honest_run program input))
 zero_ran execute readings (answers.Judged verdict) e c = absurd (cc (c.0))
 zero_ran execute readings (answers.Ran file) e c = (file, refl, c.2, c.3, c.4, c.5)
+zero_ran execute readings (answers.Printed text) e c = absurd (cc (c.1))
 zero_ran execute readings (answers.Assembled code) e c = absurd (cc (c.0))
 zero_ran execute readings answers.Usage e c = absurd c
 zero_ran execute readings (answers.Missing source) e c = absurd (omega (arith, e))
 zero_ran execute readings (answers.ReadFault source) e c = absurd (omega (arith, e))
 zero_ran execute readings (answers.TooLong source) e c = absurd (omega (arith, e))
 zero_ran execute readings answers.NotBuilt e c = absurd (omega (arith, e))
+zero_ran execute readings (answers.TextRefused fault) e c = absurd (omega (arith, e))
 zero_ran execute readings (answers.CasmRefused fault) e c = absurd (omega (arith, e))
 zero_ran execute readings (answers.NotEnoughGas need given) e c = absurd (omega (arith, e))
 zero_ran execute readings (answers.RunRefused refusal) e c = absurd (omega (arith, e))
 zero_ran execute readings (answers.RunRejected fault) e c = absurd (omega (arith, e))
 
+-- .. to `show` a program's tree, ..
+zero_printed : (show : Show) (readings : SourceReadings) (answer : Answer) → status_of answer ≡ 0 → Cause (Some (commands.Show show)) readings answer → HasText readings
+zero_printed show readings (answers.Judged verdict) e c = absurd (cc (c.0))
+zero_printed show readings (answers.Ran file) e c = absurd (cc (c.1))
+zero_printed show readings (answers.Printed text) e c = (c.2, c.3)
+zero_printed show readings (answers.Assembled code) e c = absurd (cc (c.0))
+zero_printed show readings answers.Usage e c = absurd c
+zero_printed show readings (answers.Missing source) e c = absurd (omega (arith, e))
+zero_printed show readings (answers.ReadFault source) e c = absurd (omega (arith, e))
+zero_printed show readings (answers.TooLong source) e c = absurd (omega (arith, e))
+zero_printed show readings answers.NotBuilt e c = absurd (omega (arith, e))
+zero_printed show readings (answers.TextRefused fault) e c = absurd (omega (arith, e))
+zero_printed show readings (answers.CasmRefused fault) e c = absurd (omega (arith, e))
+zero_printed show readings (answers.NotEnoughGas need given) e c = absurd (omega (arith, e))
+zero_printed show readings (answers.RunRefused refusal) e c = absurd (omega (arith, e))
+zero_printed show readings (answers.RunRejected fault) e c = absurd (omega (arith, e))
+
 -- .. and to `asm` code
 zero_assembled : (assemble : Assemble) (readings : SourceReadings) (answer : Answer) → status_of answer ≡ 0 → Cause (Some (commands.Asm assemble)) readings answer → HasCasm readings
 zero_assembled assemble readings (answers.Judged verdict) e c = absurd (cc (c.0))
 zero_assembled assemble readings (answers.Ran file) e c = absurd (cc (c.1))
+zero_assembled assemble readings (answers.Printed text) e c = absurd (cc (c.1))
 zero_assembled assemble readings (answers.Assembled code) e c = (code, c.1)
 zero_assembled assemble readings answers.Usage e c = absurd c
 zero_assembled assemble readings (answers.Missing source) e c = absurd (omega (arith, e))
 zero_assembled assemble readings (answers.ReadFault source) e c = absurd (omega (arith, e))
 zero_assembled assemble readings (answers.TooLong source) e c = absurd (omega (arith, e))
 zero_assembled assemble readings answers.NotBuilt e c = absurd (omega (arith, e))
+zero_assembled assemble readings (answers.TextRefused fault) e c = absurd (omega (arith, e))
 zero_assembled assemble readings (answers.CasmRefused fault) e c = absurd (omega (arith, e))
 zero_assembled assemble readings (answers.NotEnoughGas need given) e c = absurd (omega (arith, e))
 zero_assembled assemble readings (answers.RunRefused refusal) e c = absurd (omega (arith, e))
@@ -248,12 +293,14 @@ fifteen_rejected : (command : Command) (readings : SourceReadings) (answer : Ans
 fifteen_rejected command readings (answers.RunRejected fault) e c = (c.1, c.2, c.3, c.4, c.5, never_accepted c.1 c.2 c.3 fault c.6)
 fifteen_rejected command readings (answers.Judged verdict) e c = absurd (omega (arith, e))
 fifteen_rejected command readings (answers.Ran file) e c = absurd (omega (arith, e))
+fifteen_rejected command readings (answers.Printed text) e c = absurd (omega (arith, e))
 fifteen_rejected command readings (answers.Assembled code) e c = absurd (omega (arith, e))
 fifteen_rejected command readings answers.Usage e c = absurd c
 fifteen_rejected command readings (answers.Missing source) e c = absurd (omega (arith, e))
 fifteen_rejected command readings (answers.ReadFault source) e c = absurd (omega (arith, e))
 fifteen_rejected command readings (answers.TooLong source) e c = absurd (omega (arith, e))
 fifteen_rejected command readings answers.NotBuilt e c = absurd (omega (arith, e))
+fifteen_rejected command readings (answers.TextRefused fault) e c = absurd (omega (arith, e))
 fifteen_rejected command readings (answers.CasmRefused fault) e c = absurd (omega (arith, e))
 fifteen_rejected command readings (answers.NotEnoughGas need given) e c = absurd (omega (arith, e))
 fifteen_rejected command readings (answers.RunRefused refusal) e c = absurd (omega (arith, e))
@@ -280,7 +327,11 @@ rejected_fifteen check readings (program, input, run, can, has, refused) =
 start_zero : (execute : Execute) (readings : SourceReadings) → HasStart readings → HasAnswer (Some (commands.Run execute)) readings 0
 start_zero execute readings (program, input, can) = (answers.Ran (spelling (honest_run program input)), refl, (execute, refl, program, input, can, refl))
 
--- .. and so has code
+-- .. so has a program's text, ..
+text_zero : (show : Show) (readings : SourceReadings) → HasText readings → HasAnswer (Some (commands.Show show)) readings 0
+text_zero show readings (tree, held) = (answers.Printed (layout tree), refl, (show, refl, tree, held, refl))
+
+-- .. and code
 casm_zero : (assemble : Assemble) (readings : SourceReadings) → HasCasm readings → HasAnswer (Some (commands.Asm assemble)) readings 0
 casm_zero assemble readings (code, held) = (answers.Assembled code, refl, (refl, held))
 
@@ -304,6 +355,10 @@ by_answers files command status each =
       ran = λ execute is. (
         λ e. let h = of_command (commands.Run execute) 0 is ((each 0).0 e) in let ran = zero_ran execute readings h.0 h.1 h.2 in (ran.2, ran.3, ran.4),
         λ h. (each 0).1 (subst (λ (c : Option Command). HasAnswer c readings 0) (sym is) (start_zero execute readings h)),
+      );
+      printed = λ show is. (
+        λ e. let h = of_command (commands.Show show) 0 is ((each 0).0 e) in zero_printed show readings h.0 h.1 h.2,
+        λ h. (each 0).1 (subst (λ (c : Option Command). HasAnswer c readings 0) (sym is) (text_zero show readings h)),
       );
       assembled = λ assemble is. (
         λ e. let h = of_command (commands.Asm assemble) 0 is ((each 0).0 e) in zero_assembled assemble readings h.0 h.1 h.2,

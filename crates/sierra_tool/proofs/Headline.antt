@@ -1,5 +1,5 @@
 -- What `run` writes is the run file of an accepted run.
-use Rattle.std.proofs.Common.{◌≡◌, ℕ, ◌<◌, List, Option, Some, None, refl, sym, ◌∙◌, ap, subst, inl, inr, arith}
+use Rattle.std.proofs.Common.{◌≡◌, ℕ, ◌<◌, List, Option, Some, refl, sym, ◌∙◌, ap, subst, inl, inr, arith}
 use Rattle.edge_io.specs.Files.{FilesView}
 use Rattle.edge_io.specs.Sinks.{SinkView, WritesAll}
 use Rattle.felt64.specs.Field.{modulus}
@@ -7,15 +7,14 @@ use Rattle.first_form.specs.declared.program.Program.{Program}
 use Rattle.first_form.specs.declared.input.Input.{Input}
 use Rattle.first_form.specs.Honest.{honest_run}
 use Rattle.first_form.proofs.HonestLaws.{accepted, shown, is_run}
-use Rattle.run_file.specs.Spelling.{IsRun, spelling}
-use Rattle.sierra_tool.specs.declared.answer.Answer.TheVariants as answers
+use Rattle.run_file.specs.Spelling.{spelling}
 use Rattle.sierra_tool.specs.declared.command.Command.{Command}
 use Rattle.sierra_tool.specs.declared.command.Command.TheVariants as commands
 use Rattle.sierra_tool.specs.declared.command.Execute.{Execute}
 use Rattle.std.specs.Prelude.{MatchOption}
 use Rattle.sierra_tool.specs.declared.command.Source.{Source}
-use Rattle.sierra_tool.specs.Causes.{absent, SourceReadings, Gives, AreReadings, CanRun, Cause}
-use Rattle.sierra_tool.specs.Command.{IsCommand, name_of, text_of}
+use Rattle.sierra_tool.specs.Causes.{absent, SourceReadings, Gives, AreReadings, CanRun}
+use Rattle.sierra_tool.specs.Command.{name_of, text_of}
 use Rattle.sierra_tool.specs.Headline.{WritesAcceptedRun, RunsAreAccepted}
 use Rattle.sierra_tool.specs.Tool.{Tool, IsAnswered}
 use Rattle.sierra_tool.proofs.Exact.{zero_ran, alike, run_alone}
@@ -24,7 +23,7 @@ module _ (before now : FilesView) (out written : SinkView) (execute : Execute) w
   -- the honest run of what was read is accepted, and shows the meaning
   of_start : (readings : SourceReadings) (program : Program) (input : Input) → AreReadings before.contents (Some (commands.Run execute)) readings → CanRun readings program input → WritesAll out written (spelling (honest_run program input)) → WritesAcceptedRun before out written execute
   of_start readings program input given can whole =
-      let constant : program.constant < modulus = can.program_read.3.below in
+      let constant : program.constant < modulus = can.program_read.3.2.below in
       let argument : input.argument < modulus = can.input_read.3.argument_below in
       let verdict = shown program input constant argument can.gas in
       record {

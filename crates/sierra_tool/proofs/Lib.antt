@@ -3,7 +3,9 @@ pub mod Causes
 pub mod Checking
 pub mod CommandLaws
 pub mod Exact
+pub mod FormStages
 pub mod Headline
+pub mod Showing
 pub mod Stages
 pub mod Starting
 pub mod WordLines

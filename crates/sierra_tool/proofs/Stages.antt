@@ -1,5 +1,5 @@
 -- The parts of a command's work, put together: what the sources gave, and what that causes.
-use Rattle.std.proofs.Common.{◌≡◌, ◌≢◌, ℕ, ◌+◌, ◌<◌, ◌≤◌, List, [], length, Option, Some, None, Result, Ok, Err, refl, sym, ap, subst, inl, inr, ◌⊎◌, replicate, arith}
+use Rattle.std.proofs.Common.{◌≡◌, ◌≢◌, ℕ, ◌+◌, ◌<◌, List, [], length, Option, Some, None, Result, Ok, Err, refl, sym, ap, subst, inl, inr, ◌⊎◌, replicate, arith}
 use Rattle.std.specs.Prelude.{MatchOption, IsErrAnd, IsSome}
 use Rattle.std.specs.Option.{unwrap_or}
 use Rattle.std.specs.Global.{Vec}
@@ -11,7 +11,6 @@ use Rattle.edge_io.specs.Sinks.{SinkView}
 use Rattle.edge_io.specs.declared.files.ReadFault.{ReadFault}
 use Rattle.edge_io.specs.declared.files.ReadFault.TheVariants as faults
 use Rattle.edge_io.proofs.Reading.{Keeps-more}
-use Rattle.run_file.specs.declared.run.Run.{Run}
 use Rattle.sierra_tool.specs.declared.answer.Answer.{Answer}
 use Rattle.sierra_tool.specs.declared.answer.Answer.TheVariants as answers
 use Rattle.sierra_tool.specs.declared.answer.Stop.{Stop}
@@ -21,13 +20,10 @@ use Rattle.sierra_tool.specs.declared.command.Command.TheVariants as commands
 use Rattle.sierra_tool.specs.declared.command.Source.{Source}
 use Rattle.sierra_tool.specs.declared.command.Source.TheVariants as sources
 use Rattle.first_form.specs.declared.program.Program.{Program}
-use Rattle.first_form.specs.declared.input.Input.{Input}
-use Rattle.sierra_tool.specs.Causes.{Reading, absent, unread, found, SourceReadings, Gives, AreReadings, Holds, IsTooLong, HasProgram, CanRun, ComesTo, Cause}
-use Rattle.sierra_tool.specs.Command.{limit, name_of, first_name, first_source, IsRead}
+use Rattle.sierra_tool.specs.Causes.{Reading, absent, unread, found, SourceReadings, Gives, AreReadings, Holds, IsTooLong, IsOfForm, HasProgram, ComesTo, Cause}
+use Rattle.sierra_tool.specs.Command.{limit, name_of, first_source, IsRead}
 use Rattle.sierra_tool.specs.Exact.{reading_of}
-use Rattle.first_form.specs.Forms.{IsProgram, IsInput}
-use Rattle.first_form.specs.Meaning.{entry_gas}
-use Rattle.sierra_tool.specs.Stages.{Stops, IsUnfit, IsRefused, ReadsSource, Reaches, IsCaused, IsNotMissing, IsDelivered}
+use Rattle.sierra_tool.specs.Stages.{Stops, IsUnfit, ReadsSource, Reaches, IsCaused, IsNotMissing, IsDelivered}
 use Rattle.sierra_tool.specs.Tool.{IsCounted, MayHaveFirst, IsOutOfMemory, IsAnswered}
 use Rattle.sierra_tool.proofs.Causes.{one_answer}
 
@@ -80,7 +76,7 @@ may_be_there (Some files) name given gives present = of_file (get files name) gi
     of_file None is = absurd (present is)
     of_file (Some bytes) is = tt
 
-held_present : (source : Source) (given : Reading) (is : List ℕ → Type 0) → Holds source given is → given ≢ absent
+pub held_present : (source : Source) (given : Reading) (is : List ℕ → Type 0) → Holds source given is → given ≢ absent
 held_present source given is held e = cc (held.1)
 
 -- nothing is no value
@@ -238,7 +234,7 @@ program_present known command readings given first is present =
 
 pub program_read_present : (known : Option FileMap) (command : Command) (readings : SourceReadings) (program : Program) → AreReadings known (Some command) readings → first_source command ≡ sources.Program → IsRead command sources.Program → HasProgram readings program → MayHaveFirst known (Some command)
 program_read_present known command readings program given first is has =
-    program_present known command readings given first is (held_present sources.Program (readings sources.Program) (λ text. IsProgram text program) has)
+    program_present known command readings given first is (held_present sources.Program (readings sources.Program) (λ text. IsOfForm text program) has)
 
 -- ---- An answer that was delivered
 
@@ -248,6 +244,8 @@ first_may_be_there known (commands.Check check) readings answer given cause not_
     first_present known (commands.Check check) readings given refl (λ is. not_missing sources.Program (one_answer (Some (commands.Check check)) readings answer (answers.Missing sources.Program) cause (refl, is)))
 first_may_be_there known (commands.Run execute) readings answer given cause not_missing =
     first_present known (commands.Run execute) readings given refl (λ is. not_missing sources.Program (one_answer (Some (commands.Run execute)) readings answer (answers.Missing sources.Program) cause (refl, is)))
+first_may_be_there known (commands.Show show) readings answer given cause not_missing =
+    first_present known (commands.Show show) readings given refl (λ is. not_missing sources.Program (one_answer (Some (commands.Show show)) readings answer (answers.Missing sources.Program) cause (refl, is)))
 first_may_be_there known (commands.Asm assemble) readings answer given cause not_missing =
     first_present known (commands.Asm assemble) readings given refl (λ is. not_missing sources.Casm (one_answer (Some (commands.Asm assemble)) readings answer (answers.Missing sources.Casm) cause (refl, is)))
 first_may_be_there known commands.Planned readings answer given cause not_missing = λ e. cc

@@ -1,11 +1,9 @@
 -- What a run starts from: the program, the input and its gas, read one after the other.
-use Rattle.std.proofs.Common.{◌≡◌, ◌≢◌, ℕ, ◌<◌, ◌≤◌, List, [], Option, Some, None, Result, Ok, Err, refl, sym, subst, inl, inr, arith}
-use Rattle.std.specs.Prelude.{IsSome}
-use Rattle.std.specs.Option.{unwrap_or}
+use Rattle.std.proofs.Common.{◌≡◌, ℕ, ◌<◌, ◌≤◌, List, Some, Result, Ok, Err, refl, sym, subst, inl, inr}
 use Rattle.edge_io.specs.Files.{FilesView}
 use Rattle.first_form.specs.declared.program.Program.{Program}
 use Rattle.first_form.specs.declared.input.Input.{Input}
-use Rattle.first_form.specs.Forms.{IsProgram, IsInput}
+use Rattle.first_form.specs.Forms.{IsInput}
 use Rattle.first_form.specs.Meaning.{entry_gas}
 use Rattle.sierra_tool.specs.declared.answer.Answer.{Answer}
 use Rattle.sierra_tool.specs.declared.answer.Answer.TheVariants as answers
@@ -14,14 +12,13 @@ use Rattle.sierra_tool.specs.declared.answer.Stop.TheVariants as stops
 use Rattle.sierra_tool.specs.declared.command.Command.{Command}
 use Rattle.sierra_tool.specs.declared.command.Command.TheVariants as commands
 use Rattle.sierra_tool.specs.declared.command.Source.TheVariants as sources
-use Rattle.sierra_tool.specs.declared.work.Start.{Start}
-use Rattle.sierra_tool.specs.Causes.{Reading, Holds, HasProgram, CanRun, Cause}
+use Rattle.sierra_tool.specs.Causes.{Reading, Holds, IsOfForm, CanRun, Cause}
 use Rattle.sierra_tool.specs.Command.{name_of, first_source, IsRead}
 use Rattle.sierra_tool.specs.Stages.{IsRefused, NoProgram, NoInput, ReadsSource, Starts}
 use Rattle.sierra_tool.proofs.Stages.{unfit_cause, put, unasked, Progress, begins, goes_on, stops_there, program_present, program_read_present, uncounted}
 
 abbrev pub TakesProgram : Reading → Program → Type 0
-TakesProgram given program = Holds sources.Program given (λ text. IsProgram text program)
+TakesProgram given program = Holds sources.Program given (λ text. IsOfForm text program)
 
 abbrev pub TakesInput : Program → Reading → Input → Type 0
 TakesInput program given input = Holds sources.Input given (λ text. IsInput program text input)
@@ -30,6 +27,7 @@ TakesInput program given input = Holds sources.Input given (λ text. IsInput pro
 program_first : (command : Command) → IsRead command sources.Program → first_source command ≡ sources.Program
 program_first (commands.Check check) is = refl
 program_first (commands.Run execute) is = refl
+program_first (commands.Show show) is = refl
 program_first (commands.Asm assemble) is = absurd cc
 program_first commands.Planned is = refl
 
@@ -40,12 +38,15 @@ module _ (before middle : FilesView) (command : Command) (name : List ℕ) (is :
       goes_on before before middle command (unasked before.contents (Some command)) sources.Program name (begins before command) is TakesProgram (IsRefused sources.Program NoProgram) result part
 
   -- it stops at the program, ..
-  pub stops_at_program : (stop : Stop) → IsRead command sources.Program → ReadsSource before middle name TakesProgram (IsRefused sources.Program NoProgram) (Err stop) → Starts before middle (Some command) (Err stop)
-  stops_at_program stop reads part =
+  pub stops_at_program : (stop : Stop) → IsRead command sources.Program → IsRead command sources.Input → ReadsSource before middle name TakesProgram (IsRefused sources.Program NoProgram) (Err stop) → Starts before middle (Some command) (Err stop)
+  stops_at_program stop reads reads_input part =
       let readings = put sources.Program part.reading (unasked before.contents (Some command)) in
       let caused : (answer : Answer) → IsRefused sources.Program NoProgram part.reading answer → Cause (Some command) readings answer = λ answer refused. elim refused [
         | inl unfit ↦ unfit_cause command readings sources.Program answer reads unfit
-        | inr held ↦ subst (Cause (Some command) readings) (sym held.3.1) (inr (inl (reads, (held.0, held.1, held.2, held.3.0))))
+        | inr held ↦ elim held.3 [
+          | inl no_text ↦ subst (Cause (Some command) readings) (sym no_text.2) (reads, (held.0, held.1, held.2, no_text.1))
+          | inr no_form ↦ subst (Cause (Some command) readings) (sym no_form.1) (inr (inl (reads_input, (held.0, held.1, held.2, no_form.0))))
+        ]
       ] in
       stops_there before before middle command (unasked before.contents (Some command)) sources.Program name (begins before command) is
       TakesProgram (IsRefused sources.Program NoProgram) (λ readings start. CanRun readings start.program start.input) stop part caused

@@ -6,18 +6,23 @@ use Rattle.run_file.specs.declared.refusal.FileRefusal.{FileRefusal}
 use Rattle.run_file.specs.declared.run.Run.{Run}
 use Rattle.run_file.specs.Reading.{reading}
 use Rattle.run_file.specs.Spelling.{IsRun, spelling}
+use Rattle.sierra_text.specs.Layout.{layout}
+use Rattle.sierra_text.specs.Refusals.{IsShort, Refused}
+use Rattle.sierra_text.specs.Text.{Text, standard}
+use Rattle.sierra_types.specs.declared.program.Program.{Program as Tree}
 use Rattle.sierra_tool.specs.declared.answer.Answer.{Answer}
 use Rattle.sierra_tool.specs.declared.answer.Answer.TheVariants as answers
 use Rattle.sierra_tool.specs.declared.command.Command.{Command}
 use Rattle.sierra_tool.specs.declared.command.Command.TheVariants as commands
 use Rattle.sierra_tool.specs.declared.command.Execute.{Execute}
+use Rattle.sierra_tool.specs.declared.command.Show.{Show}
 use Rattle.sierra_tool.specs.declared.command.Source.{Source}
 use Rattle.sierra_tool.specs.declared.command.Source.TheVariants as sources
 use Rattle.first_form.specs.declared.program.Program.{Program}
 use Rattle.first_form.specs.declared.input.Input.{Input}
 use Rattle.sierra_tool.specs.Command.{name_of, IsRead, limit}
-use Rattle.casm_text.specs.Refusals.{IsShort, Refused}
-use Rattle.casm_text.specs.Text.{Text, standard}
+use Rattle.casm_text.specs.Refusals as casm_refusals
+use Rattle.casm_text.specs.Text as casm
 use Rattle.casm_word.specs.declared.instr.Instr.{Instr}
 use Rattle.first_form.specs.Forms.{IsProgram, IsInput}
 use Rattle.first_form.specs.Honest.{honest_run}
@@ -60,8 +65,23 @@ IsTooLong source given = (bytes : List ℕ) × (given ≡ found bytes) × (limit
 abbrev pub IsRunFile : List ℕ → Run → Type 0
 IsRunFile bytes run = IsRun run × (bytes ≡ spelling run)
 
+-- the text is that of a program with no more parts than a program may have
+abbrev pub IsTree : List ℕ → Tree → Type 0
+IsTree text tree = Text standard tree text × IsShort tree
+
+-- the text is that of a program of the form that is built, whatever its layout: the plain layout is the form's text
+abbrev pub IsOfForm : List ℕ → Program → Type 0
+IsOfForm text program = (tree : Tree) × IsTree text tree × IsProgram (layout tree) program
+
+-- the text is that of a program, but of none of the form that is built
+abbrev pub IsOfNoForm : List ℕ → Type 0
+IsOfNoForm text = (tree : Tree) × IsTree text tree × ((program : Program) → IsProgram (layout tree) program → ⊥)
+
+abbrev pub HasTree : SourceReadings → Tree → Type 0
+HasTree readings tree = Holds sources.Program (readings sources.Program) (λ text. IsTree text tree)
+
 abbrev pub HasProgram : SourceReadings → Program → Type 0
-HasProgram readings program = Holds sources.Program (readings sources.Program) (λ text. IsProgram text program)
+HasProgram readings program = Holds sources.Program (readings sources.Program) (λ text. IsOfForm text program)
 
 abbrev pub HasInput : SourceReadings → Program → Input → Type 0
 HasInput readings program input = Holds sources.Input (readings sources.Input) (λ text. IsInput program text input)
@@ -89,7 +109,7 @@ IsNoRunFile bytes refusal = ((run : Run) → IsRunFile bytes run → ⊥) × (re
 
 -- the text is that of this code, which has no more words than code may have
 abbrev pub IsCasm : List ℕ → List Instr → Type 0
-IsCasm text code = Text standard code text × IsShort code
+IsCasm text code = casm.Text casm.standard code text × casm_refusals.IsShort code
 
 -- ---- Causes
 
@@ -102,12 +122,13 @@ Cause (Some command) readings (answers.ReadFault source) = ComesTo command readi
 Cause (Some command) readings (answers.TooLong source) = ComesTo command readings source × IsTooLong source (readings source)
 Cause (Some command) readings answers.NotBuilt =
     (command ≡ commands.Planned)
-    ⊎ (IsRead command sources.Program
-    × Holds sources.Program (readings sources.Program) (λ text. (program : Program) → IsProgram text program → ⊥))
+    ⊎ (IsRead command sources.Input × Holds sources.Program (readings sources.Program) IsOfNoForm)
     ⊎ (IsRead command sources.Input × (program : Program) × HasProgram readings program
     × Holds sources.Input (readings sources.Input) (λ text. (input : Input) → IsInput program text input → ⊥))
+Cause (Some command) readings (answers.TextRefused fault) =
+    IsRead command sources.Program × Holds sources.Program (readings sources.Program) (λ text. Refused text fault)
 Cause (Some command) readings (answers.CasmRefused fault) =
-    IsRead command sources.Casm × Holds sources.Casm (readings sources.Casm) (λ text. Refused text fault)
+    IsRead command sources.Casm × Holds sources.Casm (readings sources.Casm) (λ text. casm_refusals.Refused text fault)
 Cause (Some command) readings (answers.NotEnoughGas need given) =
     IsRead command sources.Input × (program : Program) × (input : Input)
     × HasProgram readings program × HasInput readings program input × (given < need) × (need ≡ entry_gas program) × (given ≡ input.gas)
@@ -122,5 +143,7 @@ Cause (Some command) readings (answers.Judged verdict) =
 Cause (Some command) readings (answers.Ran file) =
     (execute : Execute) × (command ≡ commands.Run execute) × (program : Program) × (input : Input)
     × CanRun readings program input × (file ≡ spelling (honest_run program input))
+Cause (Some command) readings (answers.Printed text) =
+    (show : Show) × (command ≡ commands.Show show) × (tree : Tree) × HasTree readings tree × (text ≡ layout tree)
 Cause (Some command) readings (answers.Assembled code) =
     IsRead command sources.Casm × Holds sources.Casm (readings sources.Casm) (λ text. IsCasm text code)

@@ -10,16 +10,15 @@ use Rattle.sierra_tool.specs.declared.command.Command.{Command}
 use Rattle.sierra_tool.specs.declared.command.Command.TheVariants as commands
 use Rattle.sierra_tool.specs.declared.command.Source.{Source}
 use Rattle.sierra_tool.specs.declared.command.Source.TheVariants as sources
-use Rattle.sierra_tool.specs.Lines.{asm_fault_line, file_refusal_line, check_fault_line, words_text}
+use Rattle.sierra_tool.specs.Lines.{text_fault_line, asm_fault_line, file_refusal_line, check_fault_line, words_text}
 
--- the arguments are a command that isn't built: `compile`, `gas` or `show` with a program, `eval` with an input too, `run`
--- with a script besides, or `make` with a number below 2 ^ 64
+-- the arguments are a command that isn't built: `compile` or `gas` with a program, `eval` with an input too, `run` with a
+-- script besides, or `make` with a number below 2 ^ 64
 abbrev pub IsPlanned : List (List ℕ) → Type 0
 IsPlanned [] = ⊥
 IsPlanned (word ∷ others) =
     ((word ≡ codes "compile") × (length others ≡ 1))
     ⊎ ((word ≡ codes "gas") × (length others ≡ 1))
-    ⊎ ((word ≡ codes "show") × (length others ≡ 1))
     ⊎ ((word ≡ codes "eval") × (length others ≡ 2))
     ⊎ ((word ≡ codes "run") × (length others ≡ 3))
     ⊎ ((word ≡ codes "make") × ((number : ℕ) × (number < 2 ^ 64) × (others ≡ decimal_text number ∷ [])))
@@ -28,6 +27,7 @@ IsPlanned (word ∷ others) =
 abbrev pub IsCommand : List (List ℕ) → Command → Type 0
 IsCommand arguments (commands.Check check) = arguments ≡ codes "check" ∷ check.program.now ∷ check.input.now ∷ check.run.now ∷ []
 IsCommand arguments (commands.Run execute) = arguments ≡ codes "run" ∷ execute.program.now ∷ execute.input.now ∷ []
+IsCommand arguments (commands.Show show) = arguments ≡ codes "show" ∷ show.program.now ∷ []
 IsCommand arguments (commands.Asm assemble) = arguments ≡ codes "asm" ∷ assemble.file.now ∷ []
 IsCommand arguments commands.Planned = IsPlanned arguments
 
@@ -46,6 +46,10 @@ name_of (Some (commands.Run execute)) sources.Program = Some execute.program.now
 name_of (Some (commands.Run execute)) sources.Input = Some execute.input.now
 name_of (Some (commands.Run execute)) sources.Run = None
 name_of (Some (commands.Run execute)) sources.Casm = None
+name_of (Some (commands.Show show)) sources.Program = Some show.program.now
+name_of (Some (commands.Show show)) sources.Input = None
+name_of (Some (commands.Show show)) sources.Run = None
+name_of (Some (commands.Show show)) sources.Casm = None
 name_of (Some (commands.Asm assemble)) sources.Program = None
 name_of (Some (commands.Asm assemble)) sources.Input = None
 name_of (Some (commands.Asm assemble)) sources.Run = None
@@ -61,6 +65,7 @@ IsRead command source = IsSome (name_of (Some command) source)
 abbrev pub first_source : Command → Source
 first_source (commands.Check check) = sources.Program
 first_source (commands.Run execute) = sources.Program
+first_source (commands.Show show) = sources.Program
 first_source (commands.Asm assemble) = sources.Casm
 first_source commands.Planned = sources.Program
 
@@ -76,12 +81,14 @@ limit source = 2 ^ 24
 abbrev pub status_of : Answer → ℕ
 status_of (answers.Judged verdict) = 0
 status_of (answers.Ran file) = 0
+status_of (answers.Printed text) = 0
 status_of (answers.Assembled code) = 0
 status_of answers.Usage = 2
 status_of (answers.Missing source) = 3
 status_of (answers.ReadFault source) = 4
 status_of (answers.TooLong source) = 7
 status_of answers.NotBuilt = 9
+status_of (answers.TextRefused fault) = 10
 status_of (answers.CasmRefused fault) = 10
 status_of (answers.NotEnoughGas need given) = 13
 status_of (answers.RunRefused refusal) = 14
@@ -95,12 +102,14 @@ file_line word command source = concat (word ∷ unwrap_or (name_of command sour
 abbrev pub text_of : Option Command → Answer → List ℕ
 text_of command (answers.Judged verdict) = verdict_text verdict
 text_of command (answers.Ran file) = file
+text_of command (answers.Printed text) = text
 text_of command (answers.Assembled code) = words_text code
 text_of command answers.Usage = codes "usage\n"
 text_of command (answers.Missing source) = file_line (codes "missing ") command source
 text_of command (answers.ReadFault source) = file_line (codes "read fault ") command source
 text_of command (answers.TooLong source) = file_line (codes "too long ") command source
 text_of command answers.NotBuilt = codes "not built\n"
+text_of command (answers.TextRefused fault) = text_fault_line fault
 text_of command (answers.CasmRefused fault) = asm_fault_line fault
 text_of command (answers.NotEnoughGas need given) = concat (codes "need " ∷ decimal need ∷ codes " given " ∷ decimal given ∷ codes "\n" ∷ [])
 text_of command (answers.RunRefused refusal) = file_refusal_line refusal

@@ -12,6 +12,8 @@ use Rattle.ro_machine.specs.declared.machine.StepFault.{StepFault}
 use Rattle.ro_machine.specs.declared.machine.StepFault.TheVariants as step_faults
 use Rattle.run_file.specs.declared.refusal.FileRefusal.{FileRefusal}
 use Rattle.run_file.specs.declared.refusal.FileRefusal.TheVariants as file_refusals
+use Rattle.sierra_text.specs.declared.fault.TextFault.{TextFault}
+use Rattle.sierra_text.specs.declared.fault.TextFault.TheVariants as text_faults
 
 -- a code and a number behind it
 abbrev pub one_number : List ℕ → ℕ → List ℕ
@@ -20,6 +22,13 @@ one_number code n = concat (code ∷ codes " " ∷ decimal n ∷ codes "\n" ∷ 
 -- .. and two numbers
 abbrev pub two_numbers : List ℕ → ℕ → ℕ → List ℕ
 two_numbers code m n = concat (code ∷ codes " " ∷ decimal m ∷ codes " " ∷ decimal n ∷ codes "\n" ∷ [])
+
+-- the line of a Sierra text that is refused; out of memory is no refusal
+abbrev pub text_fault_line : TextFault → List ℕ
+text_fault_line (text_faults.Syntax place) = two_numbers (codes "T1") place.line place.column
+text_fault_line (text_faults.NumberTooWide place) = two_numbers (codes "T2") place.line place.column
+text_fault_line text_faults.TooLong = codes "T3\n"
+text_fault_line text_faults.Memory = []
 
 -- the line of a CASM text that is refused; out of memory is no refusal
 abbrev pub asm_fault_line : AsmFault → List ℕ

@@ -11,7 +11,8 @@ abbrev pub bytes_of : AnswerText → List ℕ
 bytes_of (texts.Made text) = string_bytes text
 bytes_of (texts.Held bytes) = bytes.now
 
--- the lines of an answer; a run file has none
+-- the lines that are made for an answer; for bytes that it holds there are none
 abbrev pub lines_of : Option Command → Answer → List ℕ
 lines_of command (answers.Ran file) = []
+lines_of command (answers.Printed text) = []
 lines_of command answer = text_of command answer

@@ -3,8 +3,9 @@ use Rattle.std.specs.Prelude.{⊤, ℕ, ◌≡◌, ◌≢◌, ◌⊎◌, ◌≤�
 use Rattle.edge_io.specs.Files.{FilesView, Keeps}
 use Rattle.edge_io.specs.Sinks.{SinkView, WritesAll, WritesPart}
 use Rattle.run_file.specs.declared.refusal.FileRefusal.{FileRefusal}
-use Rattle.run_file.specs.declared.run.Run.{Run}
-use Rattle.casm_text.specs.Refusals.{Refused}
+use Rattle.casm_text.specs.Refusals as casm_refusals
+use Rattle.sierra_text.specs.Refusals.{Refused}
+use Rattle.sierra_text.specs.declared.fault.TextFault.{TextFault}
 use Rattle.casm_text.specs.declared.fault.AsmFault.{AsmFault}
 use Rattle.sierra_tool.specs.declared.answer.Answer.{Answer}
 use Rattle.sierra_tool.specs.declared.answer.Answer.TheVariants as answers
@@ -17,8 +18,8 @@ use Rattle.sierra_tool.specs.declared.output.Unwritten.TheVariants as unwritten
 use Rattle.sierra_tool.specs.declared.work.Start.{Start}
 use Rattle.first_form.specs.declared.program.Program.{Program}
 use Rattle.first_form.specs.declared.input.Input.{Input}
-use Rattle.sierra_tool.specs.Causes.{Reading, absent, unread, found, SourceReadings, Gives, AreReadings, Holds, IsTooLong, IsNoRunFile, CanRun, Cause}
-use Rattle.first_form.specs.Forms.{IsProgram, IsInput}
+use Rattle.sierra_tool.specs.Causes.{Reading, absent, unread, found, SourceReadings, Gives, AreReadings, Holds, IsTooLong, IsOfNoForm, IsNoRunFile, CanRun, Cause}
+use Rattle.first_form.specs.Forms.{IsInput}
 use Rattle.sierra_tool.specs.Command.{limit, status_of, text_of}
 use Rattle.sierra_tool.specs.Tool.{IsCounted, Delivers, MayHaveFirst}
 
@@ -38,8 +39,11 @@ IsUnfit source given answer =
 abbrev pub IsRefused : Source → (List ℕ → Answer → Type 0) → Reading → Answer → Type 0
 IsRefused source wrong given answer = IsUnfit source given answer ⊎ Holds source given (λ bytes. wrong bytes answer)
 
+abbrev pub NoTree : List ℕ → Answer → Type 0
+NoTree text answer = (fault : TextFault) × Refused text fault × (answer ≡ answers.TextRefused fault)
+
 abbrev pub NoProgram : List ℕ → Answer → Type 0
-NoProgram text answer = ((program : Program) → IsProgram text program → ⊥) × (answer ≡ answers.NotBuilt)
+NoProgram text answer = NoTree text answer ⊎ (IsOfNoForm text × (answer ≡ answers.NotBuilt))
 
 abbrev pub NoInput : Program → List ℕ → Answer → Type 0
 NoInput program text answer = ((input : Input) → IsInput program text input → ⊥) × (answer ≡ answers.NotBuilt)
@@ -48,7 +52,7 @@ abbrev pub NoRun : List ℕ → Answer → Type 0
 NoRun bytes answer = (refusal : FileRefusal) × IsNoRunFile bytes refusal × (answer ≡ answers.RunRefused refusal)
 
 abbrev pub NoCasm : List ℕ → Answer → Type 0
-NoCasm text answer = (fault : AsmFault) × Refused text fault × (answer ≡ answers.CasmRefused fault)
+NoCasm text answer = (fault : AsmFault) × casm_refusals.Refused text fault × (answer ≡ answers.CasmRefused fault)
 
 abbrev pub IsNotMissing : Answer → Type 0
 IsNotMissing answer = (source : Source) → answer ≢ answers.Missing source

@@ -10,6 +10,7 @@ use casm_text::AsmFault;
 use casm_word::Code;
 use first_form::{CheckFault, Verdict};
 use run_file::FileRefusal;
+use sierra_text::TextFault;
 use std::alloc::AllocError;
 use std::marker::Model;
 
@@ -19,7 +20,9 @@ pub enum Answer {
     /// The run is accepted, and this is what it shows.
     Judged(Verdict),
     /// The bytes of the honest run's file.
-    Ran(RunBytes),
+    Ran(Bytes),
+    /// The program's text in the plain layout.
+    Printed(Bytes),
     /// The code of a CASM text.
     Assembled(Code),
     /// The arguments are no command.
@@ -32,6 +35,8 @@ pub enum Answer {
     TooLong(Source),
     /// The command isn't built, or the program or the input isn't of the form that is built.
     NotBuilt,
+    /// The bytes are no Sierra text, by this fault.
+    TextRefused(TextFault),
     /// The bytes are no CASM text, by this fault.
     CasmRefused(AsmFault),
     /// The input's gas is less than a run of the program needs.
@@ -53,13 +58,13 @@ impl Answer {
         ensures { result ≡ status_of self.now }
     {
         match self {
-            Answer::Judged(_) | Answer::Ran(_) | Answer::Assembled(_) => 0,
+            Answer::Judged(_) | Answer::Ran(_) | Answer::Printed(_) | Answer::Assembled(_) => 0,
             Answer::Usage => 2,
             Answer::Missing(_) => 3,
             Answer::ReadFault(_) => 4,
             Answer::TooLong(_) => 7,
             Answer::NotBuilt => 9,
-            Answer::CasmRefused(_) => 10,
+            Answer::TextRefused(_) | Answer::CasmRefused(_) => 10,
             Answer::NotEnoughGas { .. } => 13,
             Answer::RunRefused(_) => 14,
             Answer::RunRejected(_) => 15,
@@ -67,26 +72,26 @@ impl Answer {
     }
 }
 
-/// The bytes of a run file, as they are written.
+/// Bytes that a command made, as they are written.
 #[derive(Debug, Drop)]
-pub struct RunBytes {
+pub struct Bytes {
     bytes: Vec<u8>,
 }
 
-impl Model for RunBytes {
+impl Model for Bytes {
     ghost use Rattle.std.specs.Prelude.{List, ℕ};
 
     ghost Value = { List ℕ };
 
-    ghost view = { λ file. file.bytes.items };
+    ghost view = { λ made. made.bytes.items };
 }
 
-impl RunBytes {
+impl Bytes {
     /// These bytes.
-    pub fn new(bytes: Vec<u8>) -> RunBytes
+    pub fn new(bytes: Vec<u8>) -> Bytes
         ensures { result ≡ bytes.items }
     {
-        RunBytes { bytes }
+        Bytes { bytes }
     }
 
     /// The bytes. It takes no memory.

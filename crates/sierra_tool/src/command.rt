@@ -1,9 +1,14 @@
 //! The commands: arguments come in from the top call, and the command that they are goes out, with the names of its files.
 
-ghost use Rattle.std.specs.Prelude.{◌≡◌, ◌<◌, ◌^◌, ℕ, [], ◌∷◌, map, option_copied, string_bytes, IsTrue, ◌↔◌};
+ghost use Rattle.std.specs.Prelude.{◌≡◌, ◌<◌, ◌^◌, ℕ, [], ◌∷◌, map, option_copied, string_bytes, MatchOption, IsTrue, ◌↔◌};
 ghost use Rattle.std.specs.Option.{option_map, unwrap_or};
 ghost use Rattle.byte_reading.specs.Decimal.{decimal_text};
-ghost use Rattle.sierra_tool.specs.Command.{IsPlanned, Parses, name_of, limit};
+ghost use Rattle.sierra_tool.specs.declared.command.Assemble.{Assemble as AssembleName};
+ghost use Rattle.sierra_tool.specs.declared.command.Check.{Check as CheckNames};
+ghost use Rattle.sierra_tool.specs.declared.command.Command.TheVariants as commands;
+ghost use Rattle.sierra_tool.specs.declared.command.Execute.{Execute as ExecuteNames};
+ghost use Rattle.sierra_tool.specs.declared.command.Show.{Show as ShowName};
+ghost use Rattle.sierra_tool.specs.Command.{IsCommand, IsPlanned, Parses, name_of, limit};
 
 use byte_reading::read_decimal;
 
@@ -51,6 +56,13 @@ pub struct Execute<'a> {
     pub input: &'a str,
 }
 
+/// The command `show PROGRAM`, by the name of its file.
+#[derive(Clone, Copy, Debug, PartialEq, Eq)]
+pub struct Show<'a> {
+    /// The name of the program.
+    pub program: &'a str,
+}
+
 /// The command `asm FILE`, by the name of its file.
 #[derive(Clone, Copy, Debug, PartialEq, Eq)]
 pub struct Assemble<'a> {
@@ -65,10 +77,79 @@ pub enum Command<'a> {
     Check(Check<'a>),
     /// `run PROGRAM INPUT`: the run file of the honest run.
     Run(Execute<'a>),
+    /// `show PROGRAM`: a program in the plain layout.
+    Show(Show<'a>),
     /// `asm FILE`: the words of a CASM text.
     Asm(Assemble<'a>),
     /// A command that isn't built yet.
     Planned,
+}
+
+impl<'a> Check<'a> {
+    /// The check that the arguments ask for.
+    fn of(arguments: &'a [String]) -> Option<Check<'a>>
+        ensures { MatchOption result
+            ((check : CheckNames) → IsCommand (map string_bytes arguments.now) (commands.Check check) → ⊥)
+            (λ check. IsCommand (map string_bytes arguments.now) (commands.Check check)) }
+    {
+        match arguments {
+            [word, program, input, run] if word.as_str() == "check" => Some(Check {
+                program: program.as_str(),
+                input: input.as_str(),
+                run: run.as_str(),
+            }),
+            _ => None,
+        }
+    }
+}
+
+impl<'a> Execute<'a> {
+    /// The run that the arguments ask for.
+    fn of(arguments: &'a [String]) -> Option<Execute<'a>>
+        ensures { MatchOption result
+            ((execute : ExecuteNames) → IsCommand (map string_bytes arguments.now) (commands.Run execute) → ⊥)
+            (λ execute. IsCommand (map string_bytes arguments.now) (commands.Run execute)) }
+    {
+        match arguments {
+            [word, program, input] if word.as_str() == "run" => Some(Execute {
+                program: program.as_str(),
+                input: input.as_str(),
+            }),
+            _ => None,
+        }
+    }
+}
+
+impl<'a> Show<'a> {
+    /// The program that the arguments ask to be shown.
+    fn of(arguments: &'a [String]) -> Option<Show<'a>>
+        ensures { MatchOption result
+            ((show : ShowName) → IsCommand (map string_bytes arguments.now) (commands.Show show) → ⊥)
+            (λ show. IsCommand (map string_bytes arguments.now) (commands.Show show)) }
+    {
+        match arguments {
+            [word, program] if word.as_str() == "show" => Some(Show {
+                program: program.as_str(),
+            }),
+            _ => None,
+        }
+    }
+}
+
+impl<'a> Assemble<'a> {
+    /// The text that the arguments ask to be assembled.
+    fn of(arguments: &'a [String]) -> Option<Assemble<'a>>
+        ensures { MatchOption result
+            ((assemble : AssembleName) → IsCommand (map string_bytes arguments.now) (commands.Asm assemble) → ⊥)
+            (λ assemble. IsCommand (map string_bytes arguments.now) (commands.Asm assemble)) }
+    {
+        match arguments {
+            [word, file] if word.as_str() == "asm" => Some(Assemble {
+                file: file.as_str(),
+            }),
+            _ => None,
+        }
+    }
 }
 
 impl<'a> Command<'a> {
@@ -76,23 +157,18 @@ impl<'a> Command<'a> {
     pub fn of(arguments: &'a [String]) -> Option<Command<'a>>
         ensures { Parses (map string_bytes arguments.now) result }
     {
-        match arguments {
-            [word, program, input, run] if word.as_str() == "check" => {
-                Some(Command::Check(Check {
-                    program: program.as_str(),
-                    input: input.as_str(),
-                    run: run.as_str(),
-                }))
-            }
-            [word, program, input] if word.as_str() == "run" => Some(Command::Run(Execute {
-                program: program.as_str(),
-                input: input.as_str(),
-            })),
-            [word, file] if word.as_str() == "asm" => Some(Command::Asm(Assemble {
-                file: file.as_str(),
-            })),
-            _ if is_planned(arguments) => Some(Command::Planned),
-            _ => None,
+        if let Some(check) = Check::of(arguments) {
+            Some(Command::Check(check))
+        } else if let Some(execute) = Execute::of(arguments) {
+            Some(Command::Run(execute))
+        } else if let Some(show) = Show::of(arguments) {
+            Some(Command::Show(show))
+        } else if let Some(assemble) = Assemble::of(arguments) {
+            Some(Command::Asm(assemble))
+        } else if is_planned(arguments) {
+            Some(Command::Planned)
+        } else {
+            None
         }
     }
 
@@ -106,6 +182,7 @@ impl<'a> Command<'a> {
             (Command::Check(check), Source::Run) => Some(check.run),
             (Command::Run(execute), Source::Program) => Some(execute.program),
             (Command::Run(execute), Source::Input) => Some(execute.input),
+            (Command::Show(show), Source::Program) => Some(show.program),
             (Command::Asm(assemble), Source::Casm) => Some(assemble.file),
             _ => None,
         }
@@ -134,7 +211,7 @@ fn takes(word: &str, others: &[String]) -> bool
     ensures { IsTrue result ↔ IsPlanned (word.now ∷ map string_bytes others.now) }
 {
     match word {
-        "compile" | "gas" | "show" => others.len() == 1,
+        "compile" | "gas" => others.len() == 1,
         "eval" => others.len() == 2,
         "run" => others.len() == 3,
         "make" => is_one_number(others),

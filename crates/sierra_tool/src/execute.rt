@@ -5,7 +5,7 @@ ghost use Rattle.std.specs.Prelude.{Some};
 ghost use Rattle.sierra_tool.specs.Stages.{Works};
 ghost use Rattle.sierra_tool.specs.declared.command.Command.TheVariants as commands;
 
-use crate::answer::{Answer, RunBytes, Stop};
+use crate::answer::{Answer, Bytes, Stop};
 use crate::command::{Command, Execute};
 use crate::work::read_start;
 use edge_io::Files;
@@ -20,6 +20,6 @@ impl Execute<'_> {
         let command = Command::Run(*self);
         let start = read_start(alloc, files, &command)?;
         let file = honest_file(alloc, &start.program, &start.input)?;
-        Ok(Answer::Ran(RunBytes::new(file)))
+        Ok(Answer::Ran(Bytes::new(file)))
     }
 }

@@ -12,11 +12,12 @@ mod execute;
 mod laws;
 mod lines;
 mod output;
+mod show;
 mod tool;
 mod work;
 
-pub use answer::Answer;
-pub use command::{Assemble, Check, Command, Execute, Source};
+pub use answer::{Answer, Bytes};
+pub use command::{Assemble, Check, Command, Execute, Show, Source};
 pub use laws::{one_answer, some_answer};
 pub use tool::{Shelf, sierra_tool};
 

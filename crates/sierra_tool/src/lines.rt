@@ -2,7 +2,7 @@
 //! to write.
 
 ghost use Rattle.std.specs.Prelude.{◌≡◌, ◌++◌, IfOk, OnOk, string_bytes};
-ghost use Rattle.sierra_tool.specs.Lines.{asm_fault_line, file_refusal_line, step_fault_text, word_text, check_fault_line, word_line, instr_lines, words_text};
+ghost use Rattle.sierra_tool.specs.Lines.{text_fault_line, asm_fault_line, file_refusal_line, step_fault_text, word_text, check_fault_line, word_line, instr_lines, words_text};
 
 use casm_text::AsmFault;
 use casm_word::{Code, Instr, encode};
@@ -10,7 +10,26 @@ use felt64::Felt;
 use first_form::CheckFault;
 use ro_machine::StepFault;
 use run_file::FileRefusal;
+use sierra_text::TextFault;
 use std::alloc::{AllocError, Global};
+
+/// The line of a Sierra text that is refused.
+pub fn text_fault_line(alloc: Global, fault: &TextFault) -> Result<String, AllocError>
+    ensures { IfOk result (λ line. string_bytes line ≡ text_fault_line fault.now) }
+{
+    match *fault {
+        TextFault::Syntax(place) => {
+            let (line, column) = (place.line, place.column);
+            format!(in alloc; "T1 {line} {column}\n")
+        }
+        TextFault::NumberTooWide(place) => {
+            let (line, column) = (place.line, place.column);
+            format!(in alloc; "T2 {line} {column}\n")
+        }
+        TextFault::TooLong => String::from_str(alloc, "T3\n"),
+        TextFault::Memory => Ok(String::new(alloc)),
+    }
+}
 
 /// The line of a CASM text that is refused.
 pub fn asm_fault_line(alloc: Global, fault: &AsmFault) -> Result<String, AllocError>

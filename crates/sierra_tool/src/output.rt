@@ -1,5 +1,5 @@
-//! Writing an answer: an answer comes in from the top call, and its text goes out to the sink in one write: a run file,
-//! lines of text, or the one line of a refusal. A missing file's line takes no memory.
+//! Writing an answer: an answer comes in from the top call, and its text goes out to the sink: a run file, a program, lines,
+//! or the one line of a refusal. It is one write, but for the line of a missing file, which takes no memory.
 
 ghost use Rattle.std.specs.Prelude.{◌≡◌, ◌++◌, [], ◌∷◌, Some, IfOk, string_bytes};
 ghost use Rattle.edge_io.specs.Sinks.{Writes};
@@ -10,7 +10,9 @@ ghost use Rattle.sierra_tool.specs.declared.output.Unwritten.TheVariants as unwr
 
 use crate::answer::Answer;
 use crate::command::Command;
-use crate::lines::{asm_fault_line, check_fault_line, file_refusal_line, words_text};
+use crate::lines::{
+    asm_fault_line, check_fault_line, file_refusal_line, text_fault_line, words_text,
+};
 use edge_io::{Failed, Sink, write_all};
 use first_form::verdict_text;
 use std::alloc::{AllocError, Global};
@@ -45,7 +47,7 @@ impl From<AllocError> for Unwritten {
 enum AnswerText<'a> {
     /// Text of its own.
     Made(String),
-    /// The bytes of a run file.
+    /// The bytes that the answer holds.
     Held(&'a [u8]),
 }
 
@@ -87,25 +89,27 @@ fn text<'a>(
 ) -> Result<AnswerText<'a>, AllocError>
     ensures { IfOk result (λ text. bytes_of text ≡ text_of (Some command.now) answer.now) }
 {
-    if let Answer::Ran(file) = answer {
-        return Ok(AnswerText::Held(file.as_slice()));
+    match answer {
+        Answer::Ran(file) => Ok(AnswerText::Held(file.as_slice())),
+        Answer::Printed(text) => Ok(AnswerText::Held(text.as_slice())),
+        _ => Ok(AnswerText::Made(lines(alloc, command, answer)?)),
     }
-    Ok(AnswerText::Made(lines(alloc, command, answer)?))
 }
 
-/// The lines of an answer, which is no run file.
+/// The lines that are made for an answer; for bytes that it holds there are none.
 fn lines(alloc: Global, command: &Command, answer: &Answer) -> Result<String, AllocError>
     ensures { IfOk result (λ text. string_bytes text ≡ lines_of (Some command.now) answer.now) }
 {
     match answer {
         Answer::Judged(verdict) => verdict_text(alloc, verdict),
-        Answer::Ran(_) => Ok(String::new(alloc)),
+        Answer::Ran(_) | Answer::Printed(_) => Ok(String::new(alloc)),
         Answer::Assembled(code) => words_text(alloc, code),
         Answer::Usage => String::from_str(alloc, "usage\n"),
         Answer::Missing(source) => line(alloc, "missing ", command.file(*source)),
         Answer::ReadFault(source) => line(alloc, "read fault ", command.file(*source)),
         Answer::TooLong(source) => line(alloc, "too long ", command.file(*source)),
         Answer::NotBuilt => String::from_str(alloc, "not built\n"),
+        Answer::TextRefused(fault) => text_fault_line(alloc, fault),
         Answer::CasmRefused(fault) => asm_fault_line(alloc, fault),
         Answer::NotEnoughGas { need, given } => format!(in alloc; "need {need} given {given}\n"),
         Answer::RunRefused(refusal) => file_refusal_line(alloc, refusal),

@@ -156,8 +156,9 @@ fn answers_each_check(rt: HostRuntime) -> Result<(), Fail> {
     let own = run_file(alloc, &[], &STATES)?;
     let wrapping = run_file(alloc, &WRAPPING_CELLS, &STATES)?;
     let two_constants = altered(alloc, PROGRAM, 62, b"8")?;
+    let laid_out = altered(alloc, PROGRAM, 22, b" ")?;
     let (program, input, run) = (Some(PROGRAM), Some(INPUT), Some(own.as_slice()));
-    let rows: [([Option<&[u8]>; 3], u8, &[u8]); 8] = [
+    let rows: [([Option<&[u8]>; 3], u8, &[u8]); 11] = [
         ([program, input, run], 0, VERDICT),
         (
             [program, Some(WRAPPING_INPUT), Some(&wrapping)],
@@ -168,6 +169,21 @@ fn answers_each_check(rt: HostRuntime) -> Result<(), Fail> {
         ([program, None, run], 3, b"missing i\n"),
         ([program, input, None], 3, b"missing r\n"),
         ([Some(&two_constants), None, None], 9, b"not built\n"),
+        (
+            [Some(b"type felt64 = felt64"), None, None],
+            10,
+            b"T1 1 21\n",
+        ),
+        (
+            [
+                Some(b"type felt64 = felt64<340282366920938463463374607431768211456>;"),
+                None,
+                None,
+            ],
+            10,
+            b"T2 1 22\n",
+        ),
+        ([Some(&laid_out), input, run], 0, VERDICT),
         ([program, Some(b"gas 300\n05\n"), None], 9, b"not built\n"),
         (
             [program, Some(b"gas 299\n5\n"), None],
@@ -294,33 +310,52 @@ fn runs_programs_so_that_their_checks_accept(rt: HostRuntime) -> Result<(), Fail
     )?;
     assert_eq!(rt; status, 0);
     assert_eq!(rt; written.as_slice(), own.as_slice());
-    let rows: [(&[u8], &[u8]); 3] = [
-        (b"add", VERDICT),
+    let rows: [(&[u8], &[u8], &[u8]); 4] = [
+        (b"add", INPUT, VERDICT),
+        (b"add", b"gas 300\n18446744069414584314\n", WRAPPING_VERDICT),
         (
             b"sub",
+            INPUT,
             b"value 18446744069414584319\ngas used 300\nsteps 3\nchecks 0\n",
         ),
-        (b"mul", b"value 35\ngas used 300\nsteps 3\nchecks 0\n"),
+        (
+            b"mul",
+            INPUT,
+            b"value 35\ngas used 300\nsteps 3\nchecks 0\n",
+        ),
     ];
-    for (operation, verdict) in rows {
+    for (operation, input, verdict) in rows {
         let program = of_operation(alloc, operation)?;
         let (status, run) = call(
             alloc,
             &["run", "p", "i"],
-            [Some(&program), Some(INPUT), None],
+            [Some(&program), Some(input), None],
         )?;
         assert_eq!(rt; status, 0, "{operation:?}");
-        let (status, written) = call(alloc, &CHECK, [Some(&program), Some(INPUT), Some(&run)])?;
+        let (status, written) = call(alloc, &CHECK, [Some(&program), Some(input), Some(&run)])?;
         assert_eq!(rt; status, 0, "{operation:?}");
         assert_eq!(rt; written.as_slice(), verdict);
     }
-    let (status, written) = call(
-        alloc,
-        &["run", "p", "i"],
-        [Some(PROGRAM), Some(b"gas 299\n5\n"), None],
-    )?;
-    assert_eq!(rt; status, 13);
-    assert_eq!(rt; written.as_slice(), b"need 300 given 299\n".as_slice());
+    Ok(())
+}
+
+#[test]
+fn refuses_what_cannot_be_run(rt: HostRuntime) -> Result<(), Fail> {
+    let alloc = rt.alloc();
+    let rows: [(&[u8], &[u8], u8, &[u8]); 3] = [
+        (PROGRAM, b"gas 299\n5\n", 13, b"need 300 given 299\n"),
+        (PROGRAM, b"gas 300\n05\n", 9, b"not built\n"),
+        (b"type felt64 = felt64", INPUT, 10, b"T1 1 21\n"),
+    ];
+    for (program, input, status, output) in rows {
+        let (answered, written) = call(
+            alloc,
+            &["run", "p", "i"],
+            [Some(program), Some(input), None],
+        )?;
+        assert_eq!(rt; answered, status, "{output:?}");
+        assert_eq!(rt; written.as_slice(), output);
+    }
     Ok(())
 }
 
@@ -332,6 +367,45 @@ fn of_operation(alloc: Global, operation: &[u8]) -> Result<Vec<u8>, AllocError> 
             program = altered(alloc, &program, at, operation)?;
         }
     }
+    Ok(program)
+}
+
+#[test]
+fn shows_programs(rt: HostRuntime) -> Result<(), Fail> {
+    let alloc = rt.alloc();
+    let named =
+        b"type felt64=felt64;libfunc l = felt64_const < 7 > ;l ( ) { fallthrough ( [ 1 ] ) } ;return([1]) ; t::f[expr12]@0()->(felt64); // end";
+    let namespaced = namespaced(alloc)?;
+    let rows: [(&[u8], u8, &[u8]); 6] = [
+        (PROGRAM, 0, PROGRAM),
+        (&namespaced, 0, &namespaced),
+        (b"", 0, b""),
+        (
+            named,
+            0,
+            b"type felt64 = felt64;\n\nlibfunc l = felt64_const<7>;\n\nl() -> ([1]);\nreturn([1]);\n\n\
+              t::f[expr12]@0() -> (felt64);\n",
+        ),
+        (b"type felt64 = felt64", 10, b"T1 1 21\n"),
+        (
+            b"type felt64 = felt64<340282366920938463463374607431768211456>;",
+            10,
+            b"T2 1 22\n",
+        ),
+    ];
+    for (text, status, output) in rows {
+        let (answered, written) = call(alloc, &["show", "p"], [Some(text), None, None])?;
+        assert_eq!(rt; written.as_slice(), output);
+        assert_eq!(rt; answered, status, "{output:?}");
+    }
+    Ok(())
+}
+
+/// The program with another name in place of `main`.
+fn namespaced(alloc: Global) -> Result<Vec<u8>, AllocError> {
+    let main = b"main@0([0]: felt64) -> (felt64);\n".as_slice();
+    let mut program = PROGRAM.strip_suffix(main).unwrap_or(&[]).to_vec(alloc)?;
+    program.extend_from_slice(b"t::f[expr12]@0([0]: felt64) -> (felt64);\n")?;
     Ok(program)
 }
 
@@ -368,7 +442,7 @@ fn assembles_texts(rt: HostRuntime) -> Result<(), Fail> {
 fn tells_commands_from_other_arguments(rt: HostRuntime) -> Result<(), Fail> {
     let alloc = rt.alloc();
     let (usage, planned) = ((2, b"usage\n".as_slice()), (9, b"not built\n".as_slice()));
-    let rows: [(&[&str], (u8, &[u8])); 19] = [
+    let rows: [(&[&str], (u8, &[u8])); 20] = [
         (&[], usage),
         (&[""], usage),
         (&["check", "a"], usage),
@@ -377,6 +451,8 @@ fn tells_commands_from_other_arguments(rt: HostRuntime) -> Result<(), Fail> {
         (&["run", "p"], usage),
         (&["run", "p", "i", "s", "x"], usage),
         (&["asm"], usage),
+        (&["show"], usage),
+        (&["show", "p", "x"], usage),
         (&["asm", "p", "x"], usage),
         (&["Check", "p", "i", "r"], usage),
         (&["make", "05"], usage),
@@ -384,7 +460,6 @@ fn tells_commands_from_other_arguments(rt: HostRuntime) -> Result<(), Fail> {
         (&["table", "p"], usage),
         (&["compile", "p"], planned),
         (&["gas", "p"], planned),
-        (&["show", "p"], planned),
         (&["eval", "p", "i"], planned),
         (&["run", "p", "i", "s"], planned),
         (&["make", "18446744073709551615"], planned),
@@ -401,7 +476,7 @@ fn tells_commands_from_other_arguments(rt: HostRuntime) -> Result<(), Fail> {
 fn answers_a_program_that_is_too_long(rt: HostRuntime) -> Result<(), Fail> {
     let alloc = rt.alloc();
     for (size, status, output) in [
-        (1 << 24, 9, b"not built\n".as_slice()),
+        (1 << 24, 10, b"T1 1 1\n".as_slice()),
         ((1 << 24) + 1, 7, b"too long p\n".as_slice()),
     ] {
         let zeros = vec![in alloc; 0; size]?;

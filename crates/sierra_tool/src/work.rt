@@ -1,17 +1,20 @@
 //! The parts of work that several commands share: the bytes of a source, and the program and the input that a run starts
 //! from. Files and a name come in, and what a file stands for goes out, or the refusal that is the command's answer.
 
-ghost use Rattle.std.specs.Prelude.{Some};
+ghost use Rattle.std.specs.Prelude.{◌≡◌, ◌↔◌, Some, IfOk};
 ghost use Rattle.first_form.specs.Forms.{IsProgram, IsInput};
-ghost use Rattle.sierra_tool.specs.Causes.{Holds};
+ghost use Rattle.sierra_text.specs.AsciiNames.{HasAsciiNames};
+ghost use Rattle.sierra_text.specs.Layout.{layout};
+ghost use Rattle.sierra_tool.specs.Causes.{Holds, IsTree, IsOfForm};
 ghost use Rattle.sierra_tool.specs.Command.{IsRead};
-ghost use Rattle.sierra_tool.specs.Stages.{ReadsSource, IsFound, IsUnfit, IsRefused, NoProgram, NoInput, Starts};
+ghost use Rattle.sierra_tool.specs.Stages.{ReadsSource, IsFound, IsUnfit, IsRefused, NoTree, NoProgram, NoInput, Starts};
 
 use crate::answer::{Answer, Stop};
 use crate::command::{Command, Source};
 use edge_io::{Files, ReadFault, read_all};
 use first_form::{Input, Program, entry_gas, read_input, read_program};
-use std::alloc::Global;
+use sierra_text::{TextFault, print};
+use std::alloc::{AllocError, Global};
 
 /// What a run starts from: a program, and an input with the gas that a run of it needs.
 #[derive(Clone, Copy, Debug, PartialEq, Eq)]
@@ -59,17 +62,44 @@ pub fn bytes<F: Files>(
     }
 }
 
+/// The tree of a file with a Sierra text. It can be printed.
+pub fn read_tree<F: Files>(
+    alloc: Global,
+    files: &mut F,
+    name: &str,
+) -> Result<sierra_types::Program, Stop>
+    ensures { ReadsSource (F.view files.old) (F.view files.new) name.now
+        (λ given tree. Holds Source.Program given (λ text. IsTree text tree) × HasAsciiNames tree)
+        (IsRefused Source.Program NoTree) result }
+{
+    let text = bytes(alloc, files, Source::Program, name)?;
+    match sierra_text::read(alloc, &text) {
+        Ok(tree) => Ok(tree),
+        Err(TextFault::Memory) => Err(Stop::OutOfMemory),
+        Err(fault) => Err(Stop::Refused(Answer::TextRefused(fault))),
+    }
+}
+
 /// The program of a file.
 fn program<F: Files>(alloc: Global, files: &mut F, name: &str) -> Result<Program, Stop>
     ensures { ReadsSource (F.view files.old) (F.view files.new) name.now
-        (λ given program. Holds Source.Program given (λ text. IsProgram text program))
+        (λ given program. Holds Source.Program given (λ text. IsOfForm text program))
         (IsRefused Source.Program NoProgram) result }
 {
-    let text = bytes(alloc, files, Source::Program, name)?;
-    match read_program(&text) {
+    let tree = read_tree(alloc, files, name)?;
+    match of_form(alloc, &tree)? {
         Some(program) => Ok(program),
         None => Err(Stop::Refused(Answer::NotBuilt)),
     }
+}
+
+/// The program of the form that is built which a tree is, if it is one.
+fn of_form(alloc: Global, tree: &sierra_types::Program) -> Result<Option<Program>, AllocError>
+    requires { HasAsciiNames tree.now }
+    ensures { IfOk result (λ found. (program : Program) → (found ≡ Some program) ↔ IsProgram (layout tree.now) program) }
+{
+    let text = print(alloc, tree)?;
+    Ok(read_program(text.as_bytes()))
 }
 
 /// The input of a file. Every program that is built takes one number, so it isn't looked at.

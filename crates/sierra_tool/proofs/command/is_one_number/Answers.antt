@@ -1,6 +1,3 @@
-use Rattle.std.proofs.Common.{◌≡◌, ◌↔◌, ◌∙◌, ◌<◌, ◌≤◌, ◌^◌, ℕ, ◌∷◌, [], sym, subst, map, string_bytes}
-use Rattle.std.specs.Prelude.{IsTrue}
-use Rattle.byte_reading.specs.Decimal.{decimal_text}
 use Rattle.sierra_tool.proofs.CommandLaws.{one, is_a_number}
 use Rattle.sierra_tool.proofs.command.is_one_number.Goals as goal
 

@@ -12,7 +12,7 @@ returns-in_err-program g c =
     let command = c.args.command.now in
     passed_on (Starts (files c.args.files.now) (files c.program.new.files) (Some command)) c.in_err-program.field-0.0 c.from_residual.result c.from_residual.ensures.1
     (stops_at_program (files c.args.files.now) (files c.program.new.files) command c.file.result.now (read_name command sources.Program c.file.result.now c.requires.program c.file.ensures)
-    c.in_err-program.field-0.0 c.requires.program c.in_err-program.ensures)
+    c.in_err-program.field-0.0 c.requires.program c.requires.input c.in_err-program.ensures)
 
 -- .. at the input, ..
 pub returns-in_err-input : goal.returns-in_err-input

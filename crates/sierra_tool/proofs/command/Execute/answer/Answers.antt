@@ -1,4 +1,4 @@
-use Rattle.std.proofs.Common.{Some, Ok, refl}
+use Rattle.std.proofs.Common.{Some, refl}
 use Rattle.sierra_tool.specs.Causes.{CanRun}
 use Rattle.sierra_tool.specs.Stages.{IsCaused, Works}
 use Rattle.sierra_tool.specs.declared.answer.Answer.TheVariants as answers
