@@ -11,7 +11,7 @@ use Rattle.sierra_tool.specs.declared.command.Command.TheVariants as commands
 use Rattle.sierra_tool.specs.declared.command.Source.TheVariants as sources
 use Rattle.sierra_tool.specs.Causes.{Reading, Holds, IsCasm, Cause}
 use Rattle.sierra_tool.specs.Stages.{IsRefused, NoCasm, ReadsSource, IsCaused, Works}
-use Rattle.sierra_tool.proofs.Stages.{unfit_cause, put, unasked, begins, goes_on, stops_there, first_present, uncounted}
+use Rattle.sierra_tool.proofs.Stages.{unfit_cause, put, unasked, begins, goes_on, stops_there, may_be_there, uncounted}
 
 abbrev pub TakesCasm : Reading → List Instr → Type 0
 TakesCasm given code = Holds sources.Casm given (λ text. IsCasm text code)
@@ -29,9 +29,8 @@ module _ (before now : FilesView) (assemble : Assemble) where
         | inl unfit ↦ unfit_cause command readings sources.Casm answer refl unfit
         | inr held ↦ subst (Cause (Some command) readings) (sym held.3.2) (refl, (held.0, held.1, held.2, held.3.1))
       ] in
-      let progress = goes_on before before now command untouched sources.Casm assemble.file.now (begins before command) refl TakesCasm (IsRefused sources.Casm NoCasm) (Err stop) part in
       stops_there before before now command untouched sources.Casm assemble.file.now (begins before command) refl TakesCasm (IsRefused sources.Casm NoCasm) (IsCaused before now (Some command)) stop part caused
-      (first_present before.contents command readings progress.given refl)
+      (may_be_there before.contents assemble.file.now part.reading part.given)
 
   -- .. or assembled
   pub assembled : (code : List Instr) → ReadsSource before now assemble.file.now TakesCasm (IsRefused sources.Casm NoCasm) (Ok code) → Works before now (Some command) (Ok (answers.Assembled code))

@@ -39,7 +39,7 @@ module _ (before middle now : FilesView) (check : Check) (start : Start) (part :
         | inr held ↦ subst (Cause (Some command) readings) (sym held.3.2) ((refl, start.program, start.input, can), (held.0, held.1, held.2, held.3.1))
       ] in
       stops_there before middle now command part.readings sources.Run check.run.now progress refl TakesRun (IsRefused sources.Run NoRun) (IsCaused before now (Some command)) stop run_part caused
-      (λ present. program_read_present before.contents command part.readings start.program part.given refl refl part.outcome.program_read)
+      (λ present. program_read_present before.contents command part.readings start.program part.given refl part.outcome.program_read)
 
   module _ (run : Run) (run_part : ReadsSource middle now check.run.now TakesRun (IsRefused sources.Run NoRun) (Ok run)) where
     abbrev all_read : Progress before now command (put sources.Run run_part.reading part.readings)
@@ -52,7 +52,7 @@ module _ (before middle now : FilesView) (check : Check) (start : Start) (part :
           keeps = all_read.keeps;
           readings = put sources.Run run_part.reading part.readings;
           given = all_read.given;
-          outcome = program_read_present before.contents command part.readings start.program part.given refl refl part.outcome.program_read;
+          outcome = program_read_present before.contents command part.readings start.program part.given refl part.outcome.program_read;
         }
 
     -- .. or the run is judged

@@ -16,6 +16,8 @@ use Rattle.sierra_tool.specs.declared.command.Source.{Source}
 use Rattle.sierra_tool.specs.declared.command.Source.TheVariants as sources
 use Rattle.first_form.specs.declared.program.Program.{Program}
 use Rattle.first_form.specs.declared.input.Input.{Input}
+use Rattle.first_form.specs.declared.verdict.Verdict.{Verdict}
+use Rattle.casm_word.specs.declared.instr.Instr.{Instr}
 use Rattle.sierra_tool.specs.Causes.{Reading, absent, unread, found, SourceReadings, Gives, AreReadings, Holds, IsOfForm, CanRun, ComesTo, Cause}
 use Rattle.sierra_tool.specs.Command.{IsPlanned, IsCommand, Parses, name_of, IsRead, status_of}
 use Rattle.sierra_tool.specs.Exact.{reading_of, readings_of, HasStart, HasRunThat, HasText, HasCasm, HasExactStatus, IsExact}
@@ -219,74 +221,60 @@ known_agrees arguments files command other readings p q given source read =
 
 -- ---- Which answers have a status
 
--- an answer of status 0 to a check has an accepted run, ..
-zero_accepted : (check : Check) (readings : SourceReadings) (answer : Answer) → status_of answer ≡ 0 → Cause (Some (commands.Check check)) readings answer → HasRunThat readings IsAccepted
-zero_accepted check readings (answers.Judged verdict) e c = (c.1, c.2, c.3, c.4, c.5, c.6)
-zero_accepted check readings (answers.Ran file) e c = absurd (cc (c.1))
-zero_accepted check readings (answers.Printed text) e c = absurd (cc (c.1))
-zero_accepted check readings (answers.Assembled code) e c = absurd (cc (c.0))
-zero_accepted check readings answers.Usage e c = absurd c
-zero_accepted check readings (answers.Missing source) e c = absurd (omega (arith, e))
-zero_accepted check readings (answers.ReadFault source) e c = absurd (omega (arith, e))
-zero_accepted check readings (answers.TooLong source) e c = absurd (omega (arith, e))
-zero_accepted check readings answers.NotBuilt e c = absurd (omega (arith, e))
-zero_accepted check readings (answers.TextRefused fault) e c = absurd (omega (arith, e))
-zero_accepted check readings (answers.CasmRefused fault) e c = absurd (omega (arith, e))
-zero_accepted check readings (answers.NotEnoughGas need given) e c = absurd (omega (arith, e))
-zero_accepted check readings (answers.RunRefused refusal) e c = absurd (omega (arith, e))
-zero_accepted check readings (answers.RunRejected fault) e c = absurd (omega (arith, e))
+-- the answers of status 0
+abbrev pub OfZero : Answer → Type 0
+OfZero answer =
+    ((verdict : Verdict) × (answer ≡ answers.Judged verdict))
+    ⊎ ((file : List ℕ) × (answer ≡ answers.Ran file))
+    ⊎ ((text : List ℕ) × (answer ≡ answers.Printed text))
+    ⊎ ((code : List Instr) × (answer ≡ answers.Assembled code))
+
+pub of_zero : (answer : Answer) → status_of answer ≡ 0 → OfZero answer
+of_zero (answers.Judged verdict) e = inl (verdict, refl)
+of_zero (answers.Ran file) e = inr (inl (file, refl))
+of_zero (answers.Printed text) e = inr (inr (inl (text, refl)))
+of_zero (answers.Assembled code) e = inr (inr (inr (code, refl)))
+of_zero answers.Usage e = absurd (omega (arith, e))
+of_zero (answers.Missing source) e = absurd (omega (arith, e))
+of_zero (answers.ReadFault source) e = absurd (omega (arith, e))
+of_zero (answers.TooLong source) e = absurd (omega (arith, e))
+of_zero answers.NotBuilt e = absurd (omega (arith, e))
+of_zero (answers.TextRefused fault) e = absurd (omega (arith, e))
+of_zero (answers.CasmRefused fault) e = absurd (omega (arith, e))
+of_zero (answers.NotEnoughGas need given) e = absurd (omega (arith, e))
+of_zero (answers.RunRefused refusal) e = absurd (omega (arith, e))
+of_zero (answers.RunRejected fault) e = absurd (omega (arith, e))
+
+-- to a check such an answer has an accepted run, ..
+zero_accepted : (check : Check) (readings : SourceReadings) (answer : Answer) → OfZero answer → Cause (Some (commands.Check check)) readings answer → HasRunThat readings IsAccepted
+zero_accepted check readings answer (inl zero) c = let d = subst (Cause (Some (commands.Check check)) readings) zero.1 c in (d.1, d.2, d.3, d.4, d.5, d.6)
+zero_accepted check readings answer (inr (inl zero)) c = let d = subst (Cause (Some (commands.Check check)) readings) zero.1 c in absurd (cc (d.1))
+zero_accepted check readings answer (inr (inr (inl zero))) c = let d = subst (Cause (Some (commands.Check check)) readings) zero.1 c in absurd (cc (d.1))
+zero_accepted check readings answer (inr (inr (inr zero))) c = let d = subst (Cause (Some (commands.Check check)) readings) zero.1 c in absurd (cc (d.0))
 
 -- .. to `run` a program and an input that can be run, and the honest run's file, ..
-pub zero_ran : (execute : Execute) (readings : SourceReadings) (answer : Answer) → status_of answer ≡ 0 → Cause (Some (commands.Run execute)) readings answer
-    → (file : List ℕ) × (answer ≡ answers.Ran file) × (program : Program) × (input : Input) × CanRun readings program input × (file ≡ spelling (honest_run program input))
-zero_ran execute readings (answers.Judged verdict) e c = absurd (cc (c.0))
-zero_ran execute readings (answers.Ran file) e c = (file, refl, c.2, c.3, c.4, c.5)
-zero_ran execute readings (answers.Printed text) e c = absurd (cc (c.1))
-zero_ran execute readings (answers.Assembled code) e c = absurd (cc (c.0))
-zero_ran execute readings answers.Usage e c = absurd c
-zero_ran execute readings (answers.Missing source) e c = absurd (omega (arith, e))
-zero_ran execute readings (answers.ReadFault source) e c = absurd (omega (arith, e))
-zero_ran execute readings (answers.TooLong source) e c = absurd (omega (arith, e))
-zero_ran execute readings answers.NotBuilt e c = absurd (omega (arith, e))
-zero_ran execute readings (answers.TextRefused fault) e c = absurd (omega (arith, e))
-zero_ran execute readings (answers.CasmRefused fault) e c = absurd (omega (arith, e))
-zero_ran execute readings (answers.NotEnoughGas need given) e c = absurd (omega (arith, e))
-zero_ran execute readings (answers.RunRefused refusal) e c = absurd (omega (arith, e))
-zero_ran execute readings (answers.RunRejected fault) e c = absurd (omega (arith, e))
+abbrev pub RanFile : SourceReadings → Answer → Type 0
+RanFile readings answer = (file : List ℕ) × (answer ≡ answers.Ran file) × (program : Program) × (input : Input) × CanRun readings program input × (file ≡ spelling (honest_run program input))
+
+pub zero_ran : (execute : Execute) (readings : SourceReadings) (answer : Answer) → OfZero answer → Cause (Some (commands.Run execute)) readings answer → RanFile readings answer
+zero_ran execute readings answer (inl zero) c = let d = subst (Cause (Some (commands.Run execute)) readings) zero.1 c in absurd (cc (d.0))
+zero_ran execute readings answer (inr (inl zero)) c = let d = subst (Cause (Some (commands.Run execute)) readings) zero.1 c in (zero.0, zero.1, d.2, d.3, d.4, d.5)
+zero_ran execute readings answer (inr (inr (inl zero))) c = let d = subst (Cause (Some (commands.Run execute)) readings) zero.1 c in absurd (cc (d.1))
+zero_ran execute readings answer (inr (inr (inr zero))) c = let d = subst (Cause (Some (commands.Run execute)) readings) zero.1 c in absurd (cc (d.0))
 
 -- .. to `show` a program's tree, ..
-zero_printed : (show : Show) (readings : SourceReadings) (answer : Answer) → status_of answer ≡ 0 → Cause (Some (commands.Show show)) readings answer → HasText readings
-zero_printed show readings (answers.Judged verdict) e c = absurd (cc (c.0))
-zero_printed show readings (answers.Ran file) e c = absurd (cc (c.1))
-zero_printed show readings (answers.Printed text) e c = (c.2, c.3)
-zero_printed show readings (answers.Assembled code) e c = absurd (cc (c.0))
-zero_printed show readings answers.Usage e c = absurd c
-zero_printed show readings (answers.Missing source) e c = absurd (omega (arith, e))
-zero_printed show readings (answers.ReadFault source) e c = absurd (omega (arith, e))
-zero_printed show readings (answers.TooLong source) e c = absurd (omega (arith, e))
-zero_printed show readings answers.NotBuilt e c = absurd (omega (arith, e))
-zero_printed show readings (answers.TextRefused fault) e c = absurd (omega (arith, e))
-zero_printed show readings (answers.CasmRefused fault) e c = absurd (omega (arith, e))
-zero_printed show readings (answers.NotEnoughGas need given) e c = absurd (omega (arith, e))
-zero_printed show readings (answers.RunRefused refusal) e c = absurd (omega (arith, e))
-zero_printed show readings (answers.RunRejected fault) e c = absurd (omega (arith, e))
+zero_printed : (show : Show) (readings : SourceReadings) (answer : Answer) → OfZero answer → Cause (Some (commands.Show show)) readings answer → HasText readings
+zero_printed show readings answer (inl zero) c = let d = subst (Cause (Some (commands.Show show)) readings) zero.1 c in absurd (cc (d.0))
+zero_printed show readings answer (inr (inl zero)) c = let d = subst (Cause (Some (commands.Show show)) readings) zero.1 c in absurd (cc (d.1))
+zero_printed show readings answer (inr (inr (inl zero))) c = let d = subst (Cause (Some (commands.Show show)) readings) zero.1 c in (d.2, d.3)
+zero_printed show readings answer (inr (inr (inr zero))) c = let d = subst (Cause (Some (commands.Show show)) readings) zero.1 c in absurd (cc (d.0))
 
 -- .. and to `asm` code
-zero_assembled : (assemble : Assemble) (readings : SourceReadings) (answer : Answer) → status_of answer ≡ 0 → Cause (Some (commands.Asm assemble)) readings answer → HasCasm readings
-zero_assembled assemble readings (answers.Judged verdict) e c = absurd (cc (c.0))
-zero_assembled assemble readings (answers.Ran file) e c = absurd (cc (c.1))
-zero_assembled assemble readings (answers.Printed text) e c = absurd (cc (c.1))
-zero_assembled assemble readings (answers.Assembled code) e c = (code, c.1)
-zero_assembled assemble readings answers.Usage e c = absurd c
-zero_assembled assemble readings (answers.Missing source) e c = absurd (omega (arith, e))
-zero_assembled assemble readings (answers.ReadFault source) e c = absurd (omega (arith, e))
-zero_assembled assemble readings (answers.TooLong source) e c = absurd (omega (arith, e))
-zero_assembled assemble readings answers.NotBuilt e c = absurd (omega (arith, e))
-zero_assembled assemble readings (answers.TextRefused fault) e c = absurd (omega (arith, e))
-zero_assembled assemble readings (answers.CasmRefused fault) e c = absurd (omega (arith, e))
-zero_assembled assemble readings (answers.NotEnoughGas need given) e c = absurd (omega (arith, e))
-zero_assembled assemble readings (answers.RunRefused refusal) e c = absurd (omega (arith, e))
-zero_assembled assemble readings (answers.RunRejected fault) e c = absurd (omega (arith, e))
+zero_assembled : (assemble : Assemble) (readings : SourceReadings) (answer : Answer) → OfZero answer → Cause (Some (commands.Asm assemble)) readings answer → HasCasm readings
+zero_assembled assemble readings answer (inl zero) c = let d = subst (Cause (Some (commands.Asm assemble)) readings) zero.1 c in absurd (cc (d.0))
+zero_assembled assemble readings answer (inr (inl zero)) c = let d = subst (Cause (Some (commands.Asm assemble)) readings) zero.1 c in absurd (cc (d.1))
+zero_assembled assemble readings answer (inr (inr (inl zero))) c = let d = subst (Cause (Some (commands.Asm assemble)) readings) zero.1 c in absurd (cc (d.1))
+zero_assembled assemble readings answer (inr (inr (inr zero))) c = let d = subst (Cause (Some (commands.Asm assemble)) readings) zero.1 c in (zero.0, d.1)
 
 -- an answer of status 15 has a run that isn't accepted
 fifteen_rejected : (command : Command) (readings : SourceReadings) (answer : Answer) → status_of answer ≡ 15 → Cause (Some command) readings answer → HasRunThat readings (λ program input run. IsAccepted program input run → ⊥)
@@ -345,7 +333,7 @@ by_answers files command status each =
     record {
       each = each;
       accepted = λ check is. (
-        λ e. let h = of_command (commands.Check check) 0 is ((each 0).0 e) in zero_accepted check readings h.0 h.1 h.2,
+        λ e. let h = of_command (commands.Check check) 0 is ((each 0).0 e) in zero_accepted check readings h.0 (of_zero h.0 h.1) h.2,
         λ h. (each 0).1 (subst (λ (c : Option Command). HasAnswer c readings 0) (sym is) (accepted_zero check readings h)),
       );
       rejected = λ check is. (
@@ -353,15 +341,15 @@ by_answers files command status each =
         λ h. (each 15).1 (subst (λ (c : Option Command). HasAnswer c readings 15) (sym is) (rejected_fifteen check readings h)),
       );
       ran = λ execute is. (
-        λ e. let h = of_command (commands.Run execute) 0 is ((each 0).0 e) in let ran = zero_ran execute readings h.0 h.1 h.2 in (ran.2, ran.3, ran.4),
+        λ e. let h = of_command (commands.Run execute) 0 is ((each 0).0 e) in let ran = zero_ran execute readings h.0 (of_zero h.0 h.1) h.2 in (ran.2, ran.3, ran.4),
         λ h. (each 0).1 (subst (λ (c : Option Command). HasAnswer c readings 0) (sym is) (start_zero execute readings h)),
       );
       printed = λ show is. (
-        λ e. let h = of_command (commands.Show show) 0 is ((each 0).0 e) in zero_printed show readings h.0 h.1 h.2,
+        λ e. let h = of_command (commands.Show show) 0 is ((each 0).0 e) in zero_printed show readings h.0 (of_zero h.0 h.1) h.2,
         λ h. (each 0).1 (subst (λ (c : Option Command). HasAnswer c readings 0) (sym is) (text_zero show readings h)),
       );
       assembled = λ assemble is. (
-        λ e. let h = of_command (commands.Asm assemble) 0 is ((each 0).0 e) in zero_assembled assemble readings h.0 h.1 h.2,
+        λ e. let h = of_command (commands.Asm assemble) 0 is ((each 0).0 e) in zero_assembled assemble readings h.0 (of_zero h.0 h.1) h.2,
         λ h. (each 0).1 (subst (λ (c : Option Command). HasAnswer c readings 0) (sym is) (casm_zero assemble readings h)),
       );
     }

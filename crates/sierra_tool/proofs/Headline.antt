@@ -17,7 +17,7 @@ use Rattle.sierra_tool.specs.Causes.{absent, SourceReadings, Gives, AreReadings,
 use Rattle.sierra_tool.specs.Command.{name_of, text_of}
 use Rattle.sierra_tool.specs.Headline.{WritesAcceptedRun, RunsAreAccepted}
 use Rattle.sierra_tool.specs.Tool.{Tool, IsAnswered}
-use Rattle.sierra_tool.proofs.Exact.{zero_ran, alike, run_alone}
+use Rattle.sierra_tool.proofs.Exact.{of_zero, zero_ran, alike, run_alone}
 
 module _ (before now : FilesView) (out written : SinkView) (execute : Execute) where
   -- the honest run of what was read is accepted, and shows the meaning
@@ -45,7 +45,7 @@ module _ (before now : FilesView) (out written : SinkView) (execute : Execute) w
   of_answer answered = elim answered.delivered [
     | inr failed ↦ absurd (omega (arith, failed.0))
     | inl whole ↦
-        let ran = zero_ran execute answered.readings answered.answer (sym whole.0) answered.cause in
+        let ran = zero_ran execute answered.readings answered.answer (of_zero answered.answer (sym whole.0)) answered.cause in
         let text : text_of (Some (commands.Run execute)) answered.answer ≡ spelling (honest_run ran.2 ran.3) = ap (text_of (Some (commands.Run execute))) ran.1 ∙ ran.5 in
         of_start answered.readings ran.2 ran.3 answered.given ran.4 (subst (WritesAll out written) text whole.1)
   ]

@@ -14,7 +14,7 @@ use Rattle.sierra_tool.specs.declared.command.Show.{Show}
 use Rattle.sierra_tool.specs.declared.command.Source.TheVariants as sources
 use Rattle.sierra_tool.specs.Causes.{Reading, Holds, IsTree, Cause}
 use Rattle.sierra_tool.specs.Stages.{IsRefused, NoTree, ReadsSource, IsCaused, Works}
-use Rattle.sierra_tool.proofs.Stages.{unfit_cause, put, unasked, Progress, begins, goes_on, stops_there, first_present, held_present, uncounted}
+use Rattle.sierra_tool.proofs.Stages.{unfit_cause, put, unasked, Progress, begins, goes_on, stops_there, program_present, held_present, uncounted}
 
 abbrev pub TakesTree : Reading → Tree → Type 0
 TakesTree given tree = Holds sources.Program given (λ text. IsTree text tree) × HasAsciiNames tree
@@ -38,7 +38,7 @@ module _ (before now : FilesView) (show : Show) where
         | inr held ↦ subst (Cause (Some command) readings) (sym held.3.2) (refl, (held.0, held.1, held.2, held.3.1))
       ] in
       stops_there before before now command (unasked before.contents (Some command)) sources.Program show.program.now (begins before command) refl TakesTree refused (IsCaused before now (Some command)) stop part caused
-      (first_present before.contents command readings (progress (Err stop) part).given refl)
+      (program_present before.contents command readings (progress (Err stop) part).given refl)
 
   module _ (tree : Tree) (part : ReadsSource before now show.program.now TakesTree refused (Ok tree)) where
     -- .. or there is no memory for its layout, ..
@@ -48,7 +48,7 @@ module _ (before now : FilesView) (show : Show) where
           keeps = (progress (Ok tree) part).keeps;
           readings = put sources.Program part.reading (unasked before.contents (Some command));
           given = (progress (Ok tree) part).given;
-          outcome = first_present before.contents command (put sources.Program part.reading (unasked before.contents (Some command))) (progress (Ok tree) part).given refl
+          outcome = program_present before.contents command (put sources.Program part.reading (unasked before.contents (Some command))) (progress (Ok tree) part).given refl
               (held_present sources.Program part.reading (λ text. IsTree text tree) part.outcome.0);
         }
 

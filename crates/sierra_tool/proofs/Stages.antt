@@ -21,7 +21,7 @@ use Rattle.sierra_tool.specs.declared.command.Source.{Source}
 use Rattle.sierra_tool.specs.declared.command.Source.TheVariants as sources
 use Rattle.first_form.specs.declared.program.Program.{Program}
 use Rattle.sierra_tool.specs.Causes.{Reading, absent, unread, found, SourceReadings, Gives, AreReadings, Holds, IsTooLong, IsOfForm, HasProgram, ComesTo, Cause}
-use Rattle.sierra_tool.specs.Command.{limit, name_of, first_source, IsRead}
+use Rattle.sierra_tool.specs.Command.{limit, name_of, IsRead}
 use Rattle.sierra_tool.specs.Exact.{reading_of}
 use Rattle.sierra_tool.specs.Stages.{Stops, IsUnfit, ReadsSource, Reaches, IsCaused, IsNotMissing, IsDelivered}
 use Rattle.sierra_tool.specs.Tool.{IsCounted, MayHaveFirst, IsOutOfMemory, IsAnswered}
@@ -68,7 +68,7 @@ usual_gives (Some files) name = of_file (get files name)
     of_file (Some bytes) = inl refl
 
 -- a file that isn't absent may be there
-may_be_there : (known : Option FileMap) (name : List ℕ) (given : Reading) → Gives known name given → given ≢ absent → ForFile known name ⊥ (λ there. Unit {0})
+pub may_be_there : (known : Option FileMap) (name : List ℕ) (given : Reading) → Gives known name given → given ≢ absent → ForFile known name ⊥ (λ there. Unit {0})
 may_be_there None name given gives present = tt
 may_be_there (Some files) name given gives present = of_file (get files name) gives
   where
@@ -220,34 +220,30 @@ begins before command = record { keeps = record { contents = refl; faults = omeg
 
 -- ---- The first file
 
--- a first source that isn't absent may be there
-pub first_present : (known : Option FileMap) (command : Command) (readings : SourceReadings) → AreReadings known (Some command) readings → IsRead command (first_source command) → readings (first_source command) ≢ absent → MayHaveFirst known (Some command)
-first_present known command readings given is present = of_name (name_of (Some command) (first_source command)) is (given (first_source command))
-  where
-    of_name : (name : Option (List ℕ)) → IsSome name → MatchOption name (readings (first_source command) ≡ absent) (λ n. Gives known n (readings (first_source command))) → MatchOption name (Some command ≢ None) (λ n. ForFile known n ⊥ (λ there. Unit {0}))
-    of_name None is gives = absurd cc
-    of_name (Some name) is gives = may_be_there known name (readings (first_source command)) gives present
+-- a command that reads a program reads it first: where it isn't absent, the first file may be there
+pub program_present : (known : Option FileMap) (command : Command) (readings : SourceReadings) → AreReadings known (Some command) readings → IsRead command sources.Program → readings sources.Program ≢ absent → MayHaveFirst known (Some command)
+program_present known (commands.Check check) readings given is present = may_be_there known check.program.now (readings sources.Program) (given sources.Program) present
+program_present known (commands.Run execute) readings given is present = may_be_there known execute.program.now (readings sources.Program) (given sources.Program) present
+program_present known (commands.Show show) readings given is present = may_be_there known show.program.now (readings sources.Program) (given sources.Program) present
+program_present known (commands.Asm assemble) readings given is present = absurd cc
+program_present known commands.Planned readings given is present = absurd cc
 
-pub program_present : (known : Option FileMap) (command : Command) (readings : SourceReadings) → AreReadings known (Some command) readings → first_source command ≡ sources.Program → IsRead command sources.Program → readings sources.Program ≢ absent → MayHaveFirst known (Some command)
-program_present known command readings given first is present =
-    first_present known command readings given (subst (λ source. IsRead command source) (sym first) is) (subst (λ source. readings source ≢ absent) (sym first) present)
-
-pub program_read_present : (known : Option FileMap) (command : Command) (readings : SourceReadings) (program : Program) → AreReadings known (Some command) readings → first_source command ≡ sources.Program → IsRead command sources.Program → HasProgram readings program → MayHaveFirst known (Some command)
-program_read_present known command readings program given first is has =
-    program_present known command readings given first is (held_present sources.Program (readings sources.Program) (λ text. IsOfForm text program) has)
+pub program_read_present : (known : Option FileMap) (command : Command) (readings : SourceReadings) (program : Program) → AreReadings known (Some command) readings → IsRead command sources.Program → HasProgram readings program → MayHaveFirst known (Some command)
+program_read_present known command readings program given is has =
+    program_present known command readings given is (held_present sources.Program (readings sources.Program) (λ text. IsOfForm text program) has)
 
 -- ---- An answer that was delivered
 
 -- a first file that isn't missing may be there
 first_may_be_there : (known : Option FileMap) (command : Command) (readings : SourceReadings) (answer : Answer) → AreReadings known (Some command) readings → Cause (Some command) readings answer → IsNotMissing answer → MayHaveFirst known (Some command)
 first_may_be_there known (commands.Check check) readings answer given cause not_missing =
-    first_present known (commands.Check check) readings given refl (λ is. not_missing sources.Program (one_answer (Some (commands.Check check)) readings answer (answers.Missing sources.Program) cause (refl, is)))
+    program_present known (commands.Check check) readings given refl (λ is. not_missing sources.Program (one_answer (Some (commands.Check check)) readings answer (answers.Missing sources.Program) cause (refl, is)))
 first_may_be_there known (commands.Run execute) readings answer given cause not_missing =
-    first_present known (commands.Run execute) readings given refl (λ is. not_missing sources.Program (one_answer (Some (commands.Run execute)) readings answer (answers.Missing sources.Program) cause (refl, is)))
+    program_present known (commands.Run execute) readings given refl (λ is. not_missing sources.Program (one_answer (Some (commands.Run execute)) readings answer (answers.Missing sources.Program) cause (refl, is)))
 first_may_be_there known (commands.Show show) readings answer given cause not_missing =
-    first_present known (commands.Show show) readings given refl (λ is. not_missing sources.Program (one_answer (Some (commands.Show show)) readings answer (answers.Missing sources.Program) cause (refl, is)))
+    program_present known (commands.Show show) readings given refl (λ is. not_missing sources.Program (one_answer (Some (commands.Show show)) readings answer (answers.Missing sources.Program) cause (refl, is)))
 first_may_be_there known (commands.Asm assemble) readings answer given cause not_missing =
-    first_present known (commands.Asm assemble) readings given refl (λ is. not_missing sources.Casm (one_answer (Some (commands.Asm assemble)) readings answer (answers.Missing sources.Casm) cause (refl, is)))
+    may_be_there known assemble.file.now (readings sources.Casm) (given sources.Casm) (λ is. not_missing sources.Casm (one_answer (Some (commands.Asm assemble)) readings answer (answers.Missing sources.Casm) cause (refl, is)))
 first_may_be_there known commands.Planned readings answer given cause not_missing = λ e. cc
 
 -- what the tool did, where the answer of a command was delivered

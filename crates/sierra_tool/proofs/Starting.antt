@@ -1,5 +1,5 @@
 -- What a run starts from: the program, the input and its gas, read one after the other.
-use Rattle.std.proofs.Common.{◌≡◌, ℕ, ◌<◌, ◌≤◌, List, Some, Result, Ok, Err, refl, sym, subst, inl, inr}
+use Rattle.std.proofs.Common.{◌≡◌, ℕ, ◌<◌, ◌≤◌, List, Some, Result, Ok, Err, sym, subst, inl, inr}
 use Rattle.edge_io.specs.Files.{FilesView}
 use Rattle.first_form.specs.declared.program.Program.{Program}
 use Rattle.first_form.specs.declared.input.Input.{Input}
@@ -10,10 +10,9 @@ use Rattle.sierra_tool.specs.declared.answer.Answer.TheVariants as answers
 use Rattle.sierra_tool.specs.declared.answer.Stop.{Stop}
 use Rattle.sierra_tool.specs.declared.answer.Stop.TheVariants as stops
 use Rattle.sierra_tool.specs.declared.command.Command.{Command}
-use Rattle.sierra_tool.specs.declared.command.Command.TheVariants as commands
 use Rattle.sierra_tool.specs.declared.command.Source.TheVariants as sources
 use Rattle.sierra_tool.specs.Causes.{Reading, Holds, IsOfForm, CanRun, Cause}
-use Rattle.sierra_tool.specs.Command.{name_of, first_source, IsRead}
+use Rattle.sierra_tool.specs.Command.{name_of, IsRead}
 use Rattle.sierra_tool.specs.Stages.{IsRefused, NoProgram, NoInput, ReadsSource, Starts}
 use Rattle.sierra_tool.proofs.Stages.{unfit_cause, put, unasked, Progress, begins, goes_on, stops_there, program_present, program_read_present, uncounted}
 
@@ -22,14 +21,6 @@ TakesProgram given program = Holds sources.Program given (λ text. IsOfForm text
 
 abbrev pub TakesInput : Program → Reading → Input → Type 0
 TakesInput program given input = Holds sources.Input given (λ text. IsInput program text input)
-
--- a command that reads a program reads it first
-program_first : (command : Command) → IsRead command sources.Program → first_source command ≡ sources.Program
-program_first (commands.Check check) is = refl
-program_first (commands.Run execute) is = refl
-program_first (commands.Show show) is = refl
-program_first (commands.Asm assemble) is = absurd cc
-program_first commands.Planned is = refl
 
 module _ (before middle : FilesView) (command : Command) (name : List ℕ) (is : name_of (Some command) sources.Program ≡ Some name) where
   first_progress : (result : Result Program Stop) (part : ReadsSource before middle name TakesProgram (IsRefused sources.Program NoProgram) result)
@@ -50,7 +41,7 @@ module _ (before middle : FilesView) (command : Command) (name : List ℕ) (is :
       ] in
       stops_there before before middle command (unasked before.contents (Some command)) sources.Program name (begins before command) is
       TakesProgram (IsRefused sources.Program NoProgram) (λ readings start. CanRun readings start.program start.input) stop part caused
-      (program_present before.contents command readings (first_progress (Err stop) part).given (program_first command reads) reads)
+      (program_present before.contents command readings (first_progress (Err stop) part).given reads)
 
   module _ (now : FilesView) (input_name : List ℕ) (program : Program)
       (input_is : name_of (Some command) sources.Input ≡ Some input_name)
@@ -68,7 +59,7 @@ module _ (before middle : FilesView) (command : Command) (name : List ℕ) (is :
           ] in
           stops_there before middle now command read sources.Input input_name progress input_is
           (TakesInput program) (IsRefused sources.Input (NoInput program)) (λ readings start. CanRun readings start.program start.input) stop part caused
-          (λ present. program_read_present before.contents command read program progress.given (program_first command reads) reads first.outcome)
+          (λ present. program_read_present before.contents command read program progress.given reads first.outcome)
 
       module _ (input : Input) (second : ReadsSource middle now input_name (TakesInput program) (IsRefused sources.Input (NoInput program)) (Ok input)) where
         second_progress : Progress before now command (put sources.Input second.reading (put sources.Program first.reading (unasked before.contents (Some command))))

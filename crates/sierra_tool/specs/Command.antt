@@ -1,5 +1,5 @@
 -- The commands: how each is written and what it reads, and the status and the text of each answer.
-use Rattle.std.specs.Prelude.{ℕ, ◌≡◌, ◌<◌, ◌^◌, ◌⊎◌, List, [], ◌∷◌, Option, Some, None, IsSome, length, codes, decimal}
+use Rattle.std.specs.Prelude.{ℕ, ◌≡◌, ◌<◌, ◌^◌, ◌⊎◌, Bool, true, false, if◌then◌else◌, List, [], ◌∷◌, Option, Some, None, IsSome, length, codes, decimal}
 use Rattle.byte_reading.specs.Decimal.{decimal_text}
 use Rattle.std.specs.List.{concat}
 use Rattle.std.specs.Option.{unwrap_or}
@@ -36,43 +36,46 @@ abbrev pub Parses : List (List ℕ) → Option Command → Type 0
 Parses arguments None = (command : Command) → IsCommand arguments command → ⊥
 Parses arguments (Some command) = IsCommand arguments command
 
+-- the files that a command reads, in the order of its work: what each is, and its name
+abbrev pub files_of : Command → List (Source × List ℕ)
+files_of (commands.Check check) =
+    (sources.Program, check.program.now) ∷ (sources.Input, check.input.now) ∷ (sources.Run, check.run.now) ∷ []
+files_of (commands.Run execute) = (sources.Program, execute.program.now) ∷ (sources.Input, execute.input.now) ∷ []
+files_of (commands.Show show) = (sources.Program, show.program.now) ∷ []
+files_of (commands.Asm assemble) = (sources.Casm, assemble.file.now) ∷ []
+files_of commands.Planned = []
+
+-- the two sources are one
+abbrev pub is_same : Source → Source → Bool
+is_same sources.Program sources.Program = true
+is_same sources.Input sources.Input = true
+is_same sources.Run sources.Run = true
+is_same sources.Casm sources.Casm = true
+is_same source other = false
+
+-- the name of a source's file, among these
+abbrev pub name_among : List (Source × List ℕ) → Source → Option (List ℕ)
+name_among [] source = None
+name_among (file ∷ files) source = if is_same file.0 source then Some file.1 else name_among files source
+
 -- the name of the file for each source that a command reads
 abbrev pub name_of : Option Command → Source → Option (List ℕ)
-name_of (Some (commands.Check check)) sources.Program = Some check.program.now
-name_of (Some (commands.Check check)) sources.Input = Some check.input.now
-name_of (Some (commands.Check check)) sources.Run = Some check.run.now
-name_of (Some (commands.Check check)) sources.Casm = None
-name_of (Some (commands.Run execute)) sources.Program = Some execute.program.now
-name_of (Some (commands.Run execute)) sources.Input = Some execute.input.now
-name_of (Some (commands.Run execute)) sources.Run = None
-name_of (Some (commands.Run execute)) sources.Casm = None
-name_of (Some (commands.Show show)) sources.Program = Some show.program.now
-name_of (Some (commands.Show show)) sources.Input = None
-name_of (Some (commands.Show show)) sources.Run = None
-name_of (Some (commands.Show show)) sources.Casm = None
-name_of (Some (commands.Asm assemble)) sources.Program = None
-name_of (Some (commands.Asm assemble)) sources.Input = None
-name_of (Some (commands.Asm assemble)) sources.Run = None
-name_of (Some (commands.Asm assemble)) sources.Casm = Some assemble.file.now
-name_of (Some commands.Planned) source = None
 name_of None source = None
+name_of (Some command) source = name_among (files_of command) source
 
 -- the command reads this source
 abbrev pub IsRead : Command → Source → Type 0
 IsRead command source = IsSome (name_of (Some command) source)
 
--- the source that is read first
-abbrev pub first_source : Command → Source
-first_source (commands.Check check) = sources.Program
-first_source (commands.Run execute) = sources.Program
-first_source (commands.Show show) = sources.Program
-first_source (commands.Asm assemble) = sources.Casm
-first_source commands.Planned = sources.Program
+-- the name of the first of these files
+abbrev pub first_among : List (Source × List ℕ) → Option (List ℕ)
+first_among [] = None
+first_among (file ∷ files) = Some file.1
 
 -- the name of the file that is read first
 abbrev pub first_name : Option Command → Option (List ℕ)
 first_name None = None
-first_name (Some command) = name_of (Some command) (first_source command)
+first_name (Some command) = first_among (files_of command)
 
 -- how many bytes a source may have
 abbrev pub limit : Source → ℕ

@@ -488,6 +488,31 @@ fn answers_a_program_that_is_too_long(rt: HostRuntime) -> Result<(), Fail> {
 }
 
 #[test]
+fn reads_no_file_that_is_not_needed(rt: HostRuntime) -> Result<(), Fail> {
+    let alloc = rt.alloc();
+    let (program, input) = (Some(PROGRAM), Some(INPUT));
+    let rows: [(&[&str], [Option<&[u8]>; 3], u8, u64); 9] = [
+        (&["table", "p"], [program, None, None], 2, 0),
+        (&["compile", "p"], [program, None, None], 9, 0),
+        (&["show", "p"], [program, None, None], 0, 2),
+        (&["show", "p"], [None; 3], 3, 1),
+        (&["asm", "p"], [Some(b"ret;"), None, None], 0, 2),
+        (&["run", "p", "i"], [program, input, None], 0, 4),
+        (&["run", "p", "i"], [Some(b"type"), input, None], 10, 2),
+        (&CHECK, [Some(b""), input, None], 9, 1),
+        (&CHECK, [program, Some(b"gas 299\n5\n"), None], 13, 4),
+    ];
+    for (arguments, given, status, calls) in rows {
+        let owned = owned(alloc, arguments)?;
+        let mut files = MemFiles::new(named(alloc, given)?, Vec::new(alloc));
+        let mut out = QuietSink::new(alloc, 512)?;
+        let answered = sierra_tool(alloc, &owned, &mut files, &mut out, Shelf {});
+        assert_eq!(rt; (answered, files.calls()), (status, calls), "{arguments:?}");
+    }
+    Ok(())
+}
+
+#[test]
 fn tells_each_read_that_fails(rt: HostRuntime) -> Result<(), Fail> {
     let alloc = rt.alloc();
     let run = run_file(alloc, &[], &STATES)?;

@@ -28,7 +28,7 @@ returns-in_err-file g c =
       keeps = part.keeps;
       readings = part.readings;
       given = part.given;
-      outcome = program_read_present (files c.args.files.now).contents command part.readings c.in_ok-start.start.program part.given refl refl part.outcome.program_read;
+      outcome = program_read_present (files c.args.files.now).contents command part.readings c.in_ok-start.start.program part.given refl part.outcome.program_read;
     })
 
 -- .. or the program is run
