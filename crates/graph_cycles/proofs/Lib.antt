@@ -1,0 +1,12 @@
+pub mod ClosedParts
+pub mod Closing
+pub mod Entering
+pub mod Following
+pub mod GoingBack
+pub mod Leaving
+pub mod RowLaws
+pub mod Trying
+pub mod Uses
+pub mod Ways
+pub mod WholeSearch
+pub mod Work

@@ -1,0 +1,5 @@
+pub mod Cycles
+pub mod Graph
+pub mod Kept
+pub mod Rows
+pub mod Searching

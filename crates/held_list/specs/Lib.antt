@@ -1,0 +1,4 @@
+pub mod Difference
+pub mod Editing
+pub mod Held
+pub mod Places

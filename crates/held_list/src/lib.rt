@@ -1,0 +1,13 @@
+//! Lists of held variables, each with a payload, in rising order of the variables.
+//!
+//! A statement of a Sierra program takes variables out of such a list and adds others. The payload is a type for the
+//! linear check, cells for the places and a value for the meaning.
+#![tactic(auto)]
+
+mod held;
+mod laws;
+#[cfg(test)]
+mod tests;
+
+pub use held::{AddFault, Held};
+pub use laws::{differ_equal, differ_least};

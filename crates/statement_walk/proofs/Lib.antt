@@ -1,0 +1,12 @@
+pub mod Arrivals
+pub mod Deliveries
+pub mod Driving
+pub mod Ends
+pub mod Keeping
+pub mod Left
+pub mod Parts
+pub mod Settled
+pub mod Shapes
+pub mod Stopping
+pub mod Storing
+pub mod Turns

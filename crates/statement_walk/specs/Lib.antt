@@ -1,0 +1,7 @@
+pub mod Annotates
+pub mod Branches
+pub mod Keeps
+pub mod Marks
+pub mod Rules
+pub mod Turning
+pub mod Walk
