@@ -1,0 +1,4 @@
+pub mod Addresses
+pub mod Paths
+pub mod Readings
+pub mod Instructions

@@ -1,0 +1,7 @@
+pub mod Assertions
+pub mod Evaluations
+pub mod Follows
+pub mod Leads
+pub mod Meanings
+pub mod Places
+pub mod Tables

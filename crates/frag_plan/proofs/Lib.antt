@@ -1,0 +1,4 @@
+pub mod Bridges
+pub mod Hints
+pub mod Shapes
+pub mod Ways

@@ -1,0 +1,5 @@
+pub mod Accesses
+pub mod Honest
+pub mod View
+pub mod Remembered
+pub mod Example
