@@ -1,0 +1,9 @@
+pub mod Places
+pub mod Finds
+pub mod Named
+pub mod Forms
+pub mod Readings
+pub mod Placing
+pub mod Signed
+pub mod SameTypes
+pub mod Decided

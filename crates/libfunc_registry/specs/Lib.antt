@@ -1,0 +1,14 @@
+pub mod Arguments
+pub mod Control
+pub mod Gas
+pub mod Felts
+pub mod Integers
+pub mod Data
+pub mod Arrays
+pub mod Dictionaries
+pub mod Fam
+pub mod Signature
+pub mod Refusals
+pub mod Reading
+pub mod Wanted
+pub mod Judging

@@ -1,0 +1,5 @@
+use Rattle.type_table.proofs.Decided as decided
+use Rattle.type_table.proofs.laws.one_fault.Goals as goal
+
+pub returns : goal.returns
+returns c = decided.one_fault

@@ -1,0 +1,6 @@
+use Rattle.std.proofs.Common.{◌∙◌}
+use Rattle.type_table.proofs.TableLaws.{row_right}
+use Rattle.type_table.proofs.types.Types.user.Goals as goal
+
+pub returns : goal.returns
+returns c = c.as_ref.ensures.value ∙ (row_right c.self.invariant c.args.self.now c.self.view_is c.args.t.0 c.index.result.now c.requires c.index.ensures).user
