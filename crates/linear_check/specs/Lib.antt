@@ -1,0 +1,6 @@
+pub mod Counting
+pub mod FirstFault
+pub mod Flow
+pub mod Prepared
+pub mod Statements
+pub mod Typed
