@@ -14,7 +14,7 @@ use Rattle.sierra_tool.specs.declared.command.Source.{Source}
 use Rattle.sierra_tool.specs.declared.command.Source.TheVariants as sources
 use Rattle.first_form.specs.declared.program.Program.{Program}
 use Rattle.first_form.specs.declared.input.Input.{Input}
-use Rattle.sierra_tool.specs.Causes.{Reading, absent, unread, found, SourceReadings, Holds, IsRunFile, IsTree, IsOfForm, IsSoundTree, IsUnsound, HasProgram, HasInput, HasRun, CanRun, ComesTo, IsCasm, Cause}
+use Rattle.sierra_tool.specs.Causes.{Reading, absent, unread, found, SourceReadings, Holds, IsRunFile, IsTree, IsOfForm, HasProgram, HasInput, HasRun, CanRun, ComesTo, IsCasm, Cause}
 use Rattle.sierra_tool.specs.Command.{limit, IsRead}
 use Rattle.first_form.specs.Forms.{IsProgram, IsInput}
 use Rattle.felt64.specs.Field.{modulus}
@@ -34,9 +34,7 @@ use Rattle.run_file.specs.Spelling.{spelling}
 use Rattle.sierra_text.specs.Layout.{layout}
 use Rattle.sierra_text.proofs.Refusing.{same_program as one_tree, one_refusal as one_text_fault, program_or_refusal, never_both as text_never_both}
 use Rattle.sierra_types.specs.declared.program.Program.{Program as Tree}
-use Rattle.program_checks.specs.Checks as checks
-use Rattle.program_checks.proofs.Checks.{passes_or_refused, one_refusal as one_program_refusal, never_both as passes_never_both}
-use Rattle.sierra_tool.specs.Stages.{IsUnfit, IsRefused, NoTree, NoSoundTree, NoProgram, NoInput, NoRun, NoCasm}
+use Rattle.sierra_tool.specs.Stages.{IsUnfit, IsRefused, NoTree, NoProgram, NoInput, NoRun, NoCasm}
 use Rattle.first_form.proofs.FormLaws.{one_program, one_input}
 use Rattle.first_form.proofs.VerdictLaws.{one_verdict, some_verdict}
 use Rattle.casm_text.proofs.Refusing.{one_code, one_refusal as one_asm_fault, code_or_refusal, never_both as never_refused}
@@ -199,38 +197,20 @@ never_tree text a tree p q = text_never_both text tree p.0 p.1 q.0 q.1
 same_tree : (text : List ℕ) (a b : Tree) → IsTree text a → IsTree text b → a ≡ b
 same_tree text a b p q = one_tree text a b p.0 q.0
 
--- a program that is refused for a reason doesn't pass
-never_sound : (text : List ℕ) (a : Answer) (tree : Tree) → NoSoundTree text a → IsSoundTree text tree → ⊥
-never_sound text a tree p q =
-    let unsound = p.1 in
-    passes_never_both tree p.0 (subst (λ (t : Tree). checks.Refused t p.0) (same_tree text unsound.0 tree unsound.1 q.0) unsound.2) q.1
-
-no_sound_tree_once : (text : List ℕ) (a b : Answer) → NoSoundTree text a → NoSoundTree text b → a ≡ b
-no_sound_tree_once text a b p q =
-    let one = p.1 in
-    let other = q.1 in
-    p.2 ∙ ap answers.ProgramRefused (one_program_refusal other.0 p.0 q.0 (subst (λ (t : Tree). checks.Refused t p.0) (same_tree text one.0 other.0 one.1 other.1) one.2) other.2) ∙ sym q.2
-
 no_program_once : (text : List ℕ) (a b : Answer) → NoProgram text a → NoProgram text b → a ≡ b
 no_program_once text a b (inl p) (inl q) = no_tree_once text a b p q
-no_program_once text a b (inl p) (inr (inl q)) = absurd (never_tree text a q.1.0 p q.1.1)
-no_program_once text a b (inl p) (inr (inr q)) = absurd (never_tree text a q.0.0 p q.0.1.0)
-no_program_once text a b (inr (inl p)) (inl q) = absurd (never_tree text b p.1.0 q p.1.1)
-no_program_once text a b (inr (inl p)) (inr (inl q)) = no_sound_tree_once text a b p q
-no_program_once text a b (inr (inl p)) (inr (inr q)) = absurd (never_sound text a q.0.0 p q.0.1)
-no_program_once text a b (inr (inr p)) (inl q) = absurd (never_tree text b p.0.0 q p.0.1.0)
-no_program_once text a b (inr (inr p)) (inr (inl q)) = absurd (never_sound text b p.0.0 q p.0.1)
-no_program_once text a b (inr (inr p)) (inr (inr q)) = p.1 ∙ sym q.1
+no_program_once text a b (inl p) (inr q) = absurd (never_tree text a q.0.0 p q.0.1)
+no_program_once text a b (inr p) (inl q) = absurd (never_tree text b p.0.0 q p.0.1)
+no_program_once text a b (inr p) (inr q) = p.1 ∙ sym q.1
 
 never_program : (text : List ℕ) (a : Answer) (program : Program) → NoProgram text a → IsOfForm text program → ⊥
-never_program text a program (inl p) q = never_tree text a q.0 p q.1.0
-never_program text a program (inr (inl p)) q = never_sound text a q.0 p q.1
-never_program text a program (inr (inr p)) q =
-    p.0.2 program (subst (λ (tree : Tree). IsProgram (layout tree) program) (same_tree text q.0 p.0.0 q.1.0 p.0.1.0) q.2)
+never_program text a program (inl p) q = never_tree text a q.0 p q.1
+never_program text a program (inr p) q =
+    p.0.2 program (subst (λ (tree : Tree). IsProgram (layout tree) program) (same_tree text q.0 p.0.0 q.1 p.0.1) q.2)
 
 one_of_form : (text : List ℕ) (a b : Program) → IsOfForm text a → IsOfForm text b → a ≡ b
 one_of_form text a b p q =
-    one_program (layout q.0) a b (subst (λ (tree : Tree). IsProgram (layout tree) a) (same_tree text p.0 q.0 p.1.0 q.1.0) p.2) q.2
+    one_program (layout q.0) a b (subst (λ (tree : Tree). IsProgram (layout tree) a) (same_tree text p.0 q.0 p.1 q.1) p.2) q.2
 
 starting_once : (command : Command) (readings : SourceReadings) (a b : Answer) → Starting command readings a → Starting command readings b → a ≡ b
 starting_once command readings =
@@ -316,14 +296,11 @@ ordered command readings (answers.Missing source) c = unfit_ordered command read
 ordered command readings (answers.ReadFault source) c = unfit_ordered command readings source (answers.ReadFault source) c.0 (inr (inl (c.1, refl)))
 ordered command readings (answers.TooLong source) c = unfit_ordered command readings source (answers.TooLong source) c.0 (inr (inr (c.1, refl)))
 ordered command readings answers.NotBuilt (inl p) = subst (λ (c : Command). Ordered c readings answers.NotBuilt) (sym p) refl
-ordered command readings answers.NotBuilt (inr (inl p)) = reads_input command readings answers.NotBuilt p.0 (inl (inr (p.1.0, p.1.1, p.1.2, inr (inr (p.1.3, refl)))))
+ordered command readings answers.NotBuilt (inr (inl p)) = reads_input command readings answers.NotBuilt p.0 (inl (inr (p.1.0, p.1.1, p.1.2, inr (p.1.3, refl))))
 ordered command readings answers.NotBuilt (inr (inr p)) = reads_input command readings answers.NotBuilt p.0 (inr (p.1, p.2, inl (inr (p.3.0, p.3.1, p.3.2, (p.3.3, refl)))))
 ordered command readings (answers.TextRefused fault) c =
     let held = c.1 in
     no_text_ordered command readings (answers.TextRefused fault) c.0 (inr (held.0, held.1, held.2, (fault, held.3, refl)))
-ordered command readings (answers.ProgramRefused refusal) c =
-    let held = c.1 in
-    reads_input command readings (answers.ProgramRefused refusal) c.0 (inl (inr (held.0, held.1, held.2, inr (inl (refusal, held.3, refl)))))
 ordered command readings (answers.CasmRefused fault) c =
     let held = c.1 in
     reads_casm command readings (answers.CasmRefused fault) c.0 (inl (inr (held.0, held.1, held.2, (fault, held.3, refl))))
@@ -408,12 +385,10 @@ module _ (command : Command) (readings : SourceReadings)
       | inr refused ↦ none (answers.TextRefused refused.0) (reads, (text, is, within, refused.1))
     ])
 
-    -- .. its program is refused, or of no form that is built, or it can be run, ..
+    -- .. it is of no form that is built, or it can be run, ..
     no_program : IsRead command sources.Program → IsRead command sources.Input → ((program : Program) (input : Input) → CanRun readings program input → ⊥) → ⊥
-    no_program reads reads_input more = no_tree reads (λ tree text is within sierra. passes_or_refused tree
-        (λ passes. none answers.NotBuilt
-        (inr (inl (reads_input, (text, is, within, (tree, (sierra, passes), λ program is_program. no_input reads_input more program (text, is, within, (tree, (sierra, passes), is_program))))))))
-        (λ refusal refused. none (answers.ProgramRefused refusal) (reads_input, (text, is, within, (tree, sierra, refused)))))
+    no_program reads reads_input more = no_tree reads (λ tree text is within sierra.
+        none answers.NotBuilt (inr (inl (reads_input, (text, is, within, (tree, sierra, λ program is_program. no_input reads_input more program (text, is, within, (tree, sierra, is_program))))))))
 
     -- .. and of code
     no_casm : IsRead command sources.Casm → ⊥

@@ -4,7 +4,6 @@ use Rattle.byte_reading.specs.Decimal.{decimal_text}
 use Rattle.std.specs.List.{concat}
 use Rattle.std.specs.Option.{unwrap_or}
 use Rattle.first_form.specs.Texts.{verdict_text}
-use Rattle.program_checks.specs.Lines.{refusal_line}
 use Rattle.sierra_tool.specs.declared.answer.Answer.{Answer}
 use Rattle.sierra_tool.specs.declared.answer.Answer.TheVariants as answers
 use Rattle.sierra_tool.specs.declared.command.Command.{Command}
@@ -94,7 +93,6 @@ status_of (answers.TooLong source) = 7
 status_of answers.NotBuilt = 9
 status_of (answers.TextRefused fault) = 10
 status_of (answers.CasmRefused fault) = 10
-status_of (answers.ProgramRefused refusal) = 11
 status_of (answers.NotEnoughGas need given) = 13
 status_of (answers.RunRefused refusal) = 14
 status_of (answers.RunRejected fault) = 15
@@ -116,7 +114,6 @@ text_of command (answers.TooLong source) = file_line (codes "too long ") command
 text_of command answers.NotBuilt = codes "not built\n"
 text_of command (answers.TextRefused fault) = text_fault_line fault
 text_of command (answers.CasmRefused fault) = asm_fault_line fault
-text_of command (answers.ProgramRefused refusal) = refusal_line refusal
 text_of command (answers.NotEnoughGas need given) = concat (codes "need " ∷ decimal need ∷ codes " given " ∷ decimal given ∷ codes "\n" ∷ [])
 text_of command (answers.RunRefused refusal) = file_refusal_line refusal
 text_of command (answers.RunRejected fault) = check_fault_line fault

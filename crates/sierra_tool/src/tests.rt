@@ -342,12 +342,7 @@ fn runs_programs_so_that_their_checks_accept(rt: HostRuntime) -> Result<(), Fail
 #[test]
 fn refuses_what_cannot_be_run(rt: HostRuntime) -> Result<(), Fail> {
     let alloc = rt.alloc();
-    let unknown_type = b"type felt252 = felt252;return();main@0() -> ();";
-    let unknown_libfunc =
-        b"type felt64 = felt64;libfunc felt64_div = felt64_div;return();main@0() -> ();";
-    let rows: [(&[u8], &[u8], u8, &[u8]); 5] = [
-        (unknown_type, INPUT, 11, b"P10 felt252\n"),
-        (unknown_libfunc, INPUT, 11, b"P11 felt64_div\n"),
+    let rows: [(&[u8], &[u8], u8, &[u8]); 3] = [
         (PROGRAM, b"gas 299\n5\n", 13, b"need 300 given 299\n"),
         (PROGRAM, b"gas 300\n05\n", 9, b"not built\n"),
         (b"type felt64 = felt64", INPUT, 10, b"T1 1 21\n"),

@@ -73,8 +73,10 @@ listed_more ids i es x listed here = record { names = map-append (λ e. e.0) es 
   where
     next : (take (i + 1) ids ≡ take i ids ++ x ∷ []) × (length (take i ids) ≡ i)
     next = take_next ids i x here
+
     count : length es ≡ i
     count = sym (length-map es (λ e. e.0)) ∙ ap length listed.names ∙ next.1
+
     numbered : AreNumbered (es ++ (x, i) ∷ [])
     numbered k e is = by (push_at es (x, i) e k is)
       where
@@ -122,11 +124,14 @@ taken_more ids i es fs repeated x known taken here told added = record { first =
       where
         new : known ≡ false
         new = sym (get_or_push repeated known false i taken.each) ∙ none i (omega arith)
+
         earlier : (k : ℕ) → k < i → get_or repeated k false ≡ false
         earlier k less = sym (get_or_append_left repeated (known ∷ []) false k (omega (arith, less, taken.each))) ∙ none k (omega (arith, less))
+
         by : ((known ≡ true) × (fs ≡ es)) ⊎ ((known ≡ false) × (fs ≡ es ++ (x, i) ∷ [])) → AreListed ids (i + 1) fs
         by (inl (old, is)) = absurd (true≢false (sym old ∙ new))
         by (inr (_, is)) = subst (AreListed ids (i + 1)) (sym is) (listed_more ids i es x (taken.listed earlier) here)
+
     next : (id : List ℕ) → place_of (take (i + 1) ids) id ≡ or_else (place_of (take i ids) id) (cond (bytes_eq id x) (Some i) None)
     next id = let more = take_next ids i x here in
         ap (λ l. place_of l id) more.0 ∙ place_push (take i ids) x id ∙ ap (λ n. or_else (place_of (take i ids) id) (cond (bytes_eq id x) (Some n) None)) more.1

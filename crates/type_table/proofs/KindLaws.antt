@@ -29,8 +29,7 @@ use Rattle.type_table.proofs.Places.{names_place}
 use Rattle.type_table.proofs.Trees.{Arguments, arguments_of, has_args}
 use Rattle.type_table.proofs.Unique.{user_in-written, named_types-written}
 use Rattle.type_table.proofs.Acyclic.{types_named}
-use Rattle.type_table.specs.Resolved.{AreKnown, all_generics, IsClear}
-use Rattle.type_table.proofs.GivenLaws.{IsGiven, given_right}
+use Rattle.type_table.proofs.GivenLaws.{IsGiven, AreKnown, all_generics, given_right}
 use Rattle.type_table.proofs.MadeLaws.{Takes, made, kind_of-made, user_of-made, parts-made}
 
 abbrev is_number : Generic → Bool
@@ -152,7 +151,7 @@ module _ (ds : List TypeDecl) where
   given_takes generics.Uninitialized given args tys found = initialized_taken given args tys found
 
   -- nothing is made of other arguments
-  pub none_of_other : (g : Generic) → kind_given g givens.Other ≡ None
+  none_of_other : (g : Generic) → kind_given g givens.Other ≡ None
   none_of_other (generics.Number num) = refl
   none_of_other generics.RangeCheck = refl
   none_of_other generics.GasBuiltin = refl
@@ -167,7 +166,14 @@ module _ (ds : List TypeDecl) where
   none_of_other generics.SquashedDict = refl
   none_of_other generics.Uninitialized = refl
 
-  pub args_written : (form : Form) (g : Generic) (given : List (Option Generic)) (ts : List ℕ) (args : List Arg) (kind : TypeKind) → IsForm form args → kind_given g (given_of form given ts) ≡ Some kind
+  -- what is known of a declaration whose names are known, and whose arguments fit a kind of type
+  pub record IsClear (d : TypeDecl) (g : Generic) (form : Form) (kind : TypeKind) : Type 0 where
+    pub generic : generic_named d.generic ≡ Some g
+    pub form_right : IsForm form d.args
+    pub known : AreKnown ds (named_types d.args)
+    pub kind_is : kind_given g (given_of form (all_generics ds) (targets ds d)) ≡ Some kind
+
+  args_written : (form : Form) (g : Generic) (given : List (Option Generic)) (ts : List ℕ) (args : List Arg) (kind : TypeKind) → IsForm form args → kind_given g (given_of form given ts) ≡ Some kind
       → args ≡ written (user_in args) (named_types args)
   args_written forms.Types g given ts args kind is told =
       is ∙ ap (λ user. written user (named_types args)) (sym (ap user_in is ∙ user_in-written None (named_types args)))
@@ -175,12 +181,12 @@ module _ (ds : List TypeDecl) where
       is ∙ ap (λ user. written user (named_types args)) (sym (ap user_in is))
   args_written forms.Other g given ts args kind is told = absurd (none-some kind (sym (none_of_other g) ∙ told))
 
-  pub clear_takes : (d : TypeDecl) (g : Generic) (form : Form) (kind : TypeKind) (tys : List Ty) → IsClear ds d g form kind → AllZip (IsTypeAt ds) tys (targets ds d)
+  pub clear_takes : (d : TypeDecl) (g : Generic) (form : Form) (kind : TypeKind) (tys : List Ty) → IsClear d g form kind → AllZip (IsTypeAt ds) tys (targets ds d)
       → Takes kind (user_in d.args) tys × (generic_of kind ≡ g)
   clear_takes d g form kind tys clear each = given_takes g (given_of form (all_generics ds) (targets ds d)) d.args tys kind (given_right ds form d.args clear.form_right clear.known) each clear.kind_is
 
   -- the declaration makes a type of the types at the positions that its arguments name
-  pub clear_makes : (d : TypeDecl) (g : Generic) (form : Form) (kind : TypeKind) (tys : List Ty) → IsClear ds d g form kind → AllZip (IsTypeAt ds) tys (targets ds d) → HasArgs ds (made kind (user_in d.args) tys) d
+  pub clear_makes : (d : TypeDecl) (g : Generic) (form : Form) (kind : TypeKind) (tys : List Ty) → IsClear d g form kind → AllZip (IsTypeAt ds) tys (targets ds d) → HasArgs ds (made kind (user_in d.args) tys) d
   clear_makes d g form kind tys clear each =
       let (takes, same) = clear_takes d g form kind tys clear each in
       let wrote = args_written form g (all_generics ds) (targets ds d) d.args kind clear.form_right clear.kind_is in

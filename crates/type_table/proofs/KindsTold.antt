@@ -6,7 +6,7 @@ use Rattle.type_table.specs.Naming.{IsDeclared, place_of, ids_of}
 use Rattle.type_table.specs.Refusals.{IsFirstUnknown, positions_of}
 use Rattle.type_table.proofs.Plain.{none-some, some_is}
 use Rattle.type_table.proofs.Places.{place_declared, declared_place}
-use Rattle.type_table.specs.Resolved.{AreKnown}
+use Rattle.type_table.proofs.GivenLaws.{AreKnown}
 
 module _ (ds : List TypeDecl) where
   few_positions : (ids : List (List ℕ)) → length (positions_of ds ids) ≤ length ids

@@ -39,10 +39,9 @@ use Rattle.type_table.proofs.Trees.{Arguments, arguments_of}
 use Rattle.type_table.proofs.Unique.{one_type, named_types-written}
 use Rattle.type_table.proofs.Acyclic as acyclic
 use Rattle.type_table.proofs.Acyclic.{no_cycle, no_cycle_through}
-use Rattle.type_table.specs.Resolved.{AreKnown, all_generics, IsClear}
-use Rattle.type_table.proofs.GivenLaws.{given_right, kind_fits, fits_kind}
+use Rattle.type_table.proofs.GivenLaws.{AreKnown, all_generics, given_right, kind_fits, fits_kind}
 use Rattle.type_table.proofs.MadeLaws.{Takes, made, kind_of-made, facts-made, allowed-made}
-use Rattle.type_table.proofs.KindLaws.{clear_takes, clear_makes}
+use Rattle.type_table.proofs.KindLaws.{IsClear, clear_takes, clear_makes}
 
 -- ---- tests
 

@@ -82,7 +82,7 @@ module _ (ds : List TypeDecl) where
       let here = (place-first (ids_of ds) id i is).here in
       (i, slice_get_within (ids_of ds) i id here, get_or_from_slice_get (ids_of ds) i id id here)
 
-  pub decl_at : (id : List ℕ) (i : ℕ) → slice_get (ids_of ds) i ≡ Some id → (d : TypeDecl) × (slice_get ds i ≡ Some d) × (d.id ≡ id)
+  decl_at : (id : List ℕ) (i : ℕ) → slice_get (ids_of ds) i ≡ Some id → (d : TypeDecl) × (slice_get ds i ≡ Some d) × (d.id ≡ id)
   decl_at id i is = by (slice_get ds i) refl
     where
       by : (o : Option TypeDecl) → slice_get ds i ≡ o → (d : TypeDecl) × (slice_get ds i ≡ Some d) × (d.id ≡ id)

@@ -10,7 +10,6 @@ use Rattle.type_table.specs.declared.kind.TypeKind.TheVariants as kinds
 use Rattle.type_table.specs.Naming.{IsFirst}
 use Rattle.type_table.specs.Trees.{kind_of, user_of, parts, IsAllowed}
 use Rattle.type_table.specs.IsType.{most_cells, most_arguments, most_depth}
-use Rattle.type_table.specs.Parts.{HasOrdinaryParts}
 
 pub record RowView : Type 0 where
   pub kind : TypeKind
@@ -92,7 +91,6 @@ pub record IsRow (view : TypesView) (i : ℕ) (row : RowView) : Type 0 where
   pub members : trees_of view row.members ≡ parts (tree_of view i)
   pub below : All (λ t. t.0 < length view.rows) row.members
   pub few_members : length row.members ≤ most_arguments
-  pub ordinary : HasOrdinaryParts (tree_of view i)
   pub allowed : IsAllowed (tree_of view i)
   pub few_cells : size (tree_of view i) ≤ most_cells
   pub shallow : depth (tree_of view i) ≤ most_depth

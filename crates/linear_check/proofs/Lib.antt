@@ -1,5 +1,0 @@
-pub mod Counts
-pub mod Ending
-pub mod Giving
-pub mod Lawfulness
-pub mod Parts

@@ -1,6 +1,0 @@
-pub mod Counting
-pub mod FirstFault
-pub mod Flow
-pub mod Prepared
-pub mod Statements
-pub mod Typed
