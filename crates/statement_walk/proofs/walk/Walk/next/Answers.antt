@@ -7,7 +7,7 @@ use Rattle.statement_walk.proofs.walk.Walk.next.Goals as goal
 
 pub returns-in_err-statement-clause-idle : goal.returns-in_err-statement-clause-idle
 returns-in_err-statement-clause-idle g c =
-    if_idle c.self.inside.waiting.keys c.pop_first.new.self.keys c.self.inside.stored.items c.args.self.now c.from_residual.result c.self.view_is
+    if_idle c.self.inside.waiting.keys _ c.self.inside.stored.items c.args.self.now c.from_residual.result c.self.view_is
     c.in_err-statement.ensures.variant.1 c.in_err-statement.ensures.unchanged
 
 pub index-requires : goal.index-requires
@@ -28,5 +28,5 @@ invariant_of-self-2 g c = taken_seen _ _ _ _ c.in_ok-statement.ensures.updates.0
 pub returns-clause-next : goal.returns-clause-next
 returns-clause-next g c =
     let stored = c.self.invariant c.in_ok-statement.statement c.in_ok-statement.ensures.member in
-    next_found (contains nat_cmp c.self.inside.waiting) (contains nat_cmp c.pop_first.new.self) c.self.inside.stored.items c.args.self.now c.in_ok-statement.statement c.in_ok-function.field-0.now c.self.view_is c.in_ok-statement.ensures.member c.in_ok-statement.ensures.least c.in_ok-statement.ensures.updates.0
+    next_found (contains nat_cmp c.self.inside.waiting) _ c.self.inside.stored.items c.args.self.now c.in_ok-statement.statement c.in_ok-function.field-0.now c.self.view_is c.in_ok-statement.ensures.member c.in_ok-statement.ensures.least c.in_ok-statement.ensures.updates.0
     (stored_there c.self.inside.stored.items c.in_ok-statement.statement c.index.result.now c.in_ok-function.field-0.now (slice_get_within c.self.inside.stored.items c.in_ok-statement.statement (Some stored.0) stored.1) c.index.ensures c.in_ok-function.ensures.value)
