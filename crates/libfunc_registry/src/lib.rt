@@ -20,6 +20,8 @@ mod integers;
 mod laws;
 mod libfunc;
 mod sig;
+#[cfg(test)]
+mod tests;
 mod wanted;
 mod width;
 

@@ -1,19 +1,18 @@
 -- The types that a type's arguments name, by position; and that a type doesn't reach itself.
-use Rattle.std.proofs.Common.{◌≡◌, ◌⊎◌, inl, inr, ℕ, zero, suc, ◌+◌, ◌<◌, ◌≤◌, List, [], ◌∷◌, map, length, Option, Some, None, option_map, slice_get, slice_index_or, refl, ap, sym, subst, ◌∙◌, arith}
+use Rattle.std.proofs.Common.{◌≡◌, ℕ, zero, suc, ◌<◌, ◌≤◌, List, [], ◌∷◌, Some, option_map, slice_get, slice_index_or, refl, ap, sym, subst, ◌∙◌, arith}
 use Rattle.std.specs.List.{AllZip, Contains, cons_option}
 use Rattle.std.proofs.lemmas.Option.{slice_get-map, slice_get-get_or, get_or_from_slice_get}
 use Rattle.graph_cycles.specs.Graph.{Leads, Way, OnCycle}
 use Rattle.type_trees.specs.Ty.{Ty, depth}
 use Rattle.sierra_types.specs.declared.program.TypeDecl.{TypeDecl}
-use Rattle.type_table.specs.Naming.{Names, IsDeclared, place_of, ids_of}
+use Rattle.type_table.specs.Naming.{IsDeclared, place_of, ids_of}
 use Rattle.type_table.specs.Trees.{user_of, parts}
 use Rattle.type_table.specs.Refusals.{named_types, positions_of, arguments}
 use Rattle.type_table.specs.IsType.{HasArgs, IsType}
-use Rattle.type_table.specs.Resolving.{written}
 use Rattle.type_table.specs.Rows.{IsTypeAt, targets}
 use Rattle.type_table.proofs.Plain.{none-some, some_is}
 use Rattle.type_table.proofs.Places.{names_place, named_at, declared_place}
-use Rattle.type_table.proofs.Trees.{Arguments, arguments_of, has_args, AllBelow, parts_below, depth_positive}
+use Rattle.type_table.proofs.Trees.{arguments_of, AllBelow, parts_below, depth_positive}
 use Rattle.type_table.proofs.Unique.{named_types-written}
 
 module _ (ds : List TypeDecl) where

@@ -19,7 +19,7 @@ use Rattle.type_table.proofs.NamedLaws.{same_generic}
 use Rattle.type_table.proofs.Places.{names_once}
 use Rattle.type_table.proofs.Trees.{arguments_of}
 use Rattle.type_table.proofs.Unique.{of_generic, name_of, of_generic-parts}
-use Rattle.type_table.proofs.DecidedDoubt.{Undeniable, sure, then}
+use Rattle.type_table.proofs.DecidedDoubt.{Undeniable, sure, and_then}
 use Rattle.type_table.proofs.DecidedLists.{later, contains_at}
 
 is_number : (ty : Ty) (num : Num) → generics.Number num ≡ generic_of (kind_of ty) → number num ≡ ty
@@ -38,7 +38,7 @@ module _ (ds : List TypeDecl) where
 
   one : (Is : List ℕ → Type 0) (args : List Arg) → OneType ds Is args → AreKnown args → Undeniable ((ty : Ty) × OneArgument ds (IsType ds ty) args)
   one Is args (arg, is, names) known =
-      then (known_first arg [] names.id names.arg_is (subst AreKnown is known))
+      and_then (known_first arg [] names.id names.arg_is (subst AreKnown is known))
       (λ found. sure (found.0, (names.id, is ∙ ap (λ a. a ∷ []) names.arg_is, found.1)))
 
   -- a type whose generic name is that of a number is this number
@@ -53,36 +53,36 @@ module _ (ds : List TypeDecl) where
 
   numbered : (args : List Arg) → OneType ds IsNumber args → AreKnown args → Undeniable ((num : Num) × OneArgument ds (IsType ds (number num)) args)
   numbered args (arg, is, names) known =
-      then (known_first arg [] names.id names.arg_is (subst AreKnown is known))
+      and_then (known_first arg [] names.id names.arg_is (subst AreKnown is known))
       (λ found. let right = number_type names.id found.0 arg names found.1 in sure (right.0, (names.id, is ∙ ap (λ a. a ∷ []) names.arg_is, right.1)))
 
   members_made : (members : List Arg) → All (NamesType ds IsOrdinary) members → AreKnown members → Undeniable ((tys : Tys) × AreTypes ds tys members)
   members_made [] each known = sure (no_types, refl)
   members_made (arg ∷ members) each known =
       let names : NamesType ds IsOrdinary arg = All-head (NamesType ds IsOrdinary) arg members each in
-      then (known_first arg members names.id names.arg_is known) (λ found.
-      then (members_made members (All-tail (NamesType ds IsOrdinary) arg members each) (known_later arg members known)) (λ rest.
+      and_then (known_first arg members names.id names.arg_is known) (λ found.
+      and_then (members_made members (All-tail (NamesType ds IsOrdinary) arg members each) (known_later arg members known)) (λ rest.
       sure (types found.0 rest.0, (names.id, members, ap (λ a. a ∷ members) names.arg_is, found.1, rest.1))))
 
   user_made : (args members : List Arg) → UserThenTypes ds args members → AreKnown args
       → Undeniable ((name : List ℕ) × (tys : Tys) × (args ≡ User name ∷ members) × AreTypes ds tys members)
   user_made args members (name, is, each) known =
-      then (members_made members each (known_later (User name) members (subst AreKnown is known))) (λ found. sure (name, found.0, is, found.1))
+      and_then (members_made members each (known_later (User name) members (subst AreKnown is known))) (λ found. sure (name, found.0, is, found.1))
 
   generic_made : (d : TypeDecl) (g : Generic) → d.generic ≡ generic_name g → FitsGeneric ds g d.args → AreKnown d.args → Undeniable ((ty : Ty) × HasArgs ds ty d)
   generic_made d (generics.Number num) is fits known = sure (number num, (is, fits))
   generic_made d generics.RangeCheck is fits known = sure (range_check, (is, fits))
   generic_made d generics.GasBuiltin is fits known = sure (gas_builtin, (is, fits))
-  generic_made d generics.NonZero is fits known = then (numbered d.args fits known) (λ a. sure (nonzero a.0, (is, a.1)))
-  generic_made d generics.Box is fits known = then (one _ d.args fits known) (λ a. sure (box a.0, (is, a.1)))
-  generic_made d generics.Array is fits known = then (one _ d.args fits known) (λ a. sure (array a.0, (is, a.1)))
-  generic_made d generics.Snapshot is fits known = then (one _ d.args fits known) (λ a. sure (snapshot a.0, (is, a.1)))
-  generic_made d generics.Struct is (members, fits) known = then (user_made d.args members fits known) (λ a. sure (struct a.0 a.1, (is, members, a.2, a.3)))
-  generic_made d generics.Enum is (variant, more, fits) known = then (user_made d.args (variant ∷ more) fits known) (λ a. sure (enum a.0 a.1, (is, variant ∷ more, a.2, a.3)))
-  generic_made d generics.Dict is fits known = then (numbered d.args fits known) (λ a. sure (dict a.0, (is, a.1)))
-  generic_made d generics.DictEntry is fits known = then (numbered d.args fits known) (λ a. sure (dict_entry a.0, (is, a.1)))
-  generic_made d generics.SquashedDict is fits known = then (numbered d.args fits known) (λ a. sure (squashed_dict a.0, (is, a.1)))
-  generic_made d generics.Uninitialized is fits known = then (one _ d.args fits known) (λ a. sure (uninitialized a.0, (is, a.1)))
+  generic_made d generics.NonZero is fits known = and_then (numbered d.args fits known) (λ a. sure (nonzero a.0, (is, a.1)))
+  generic_made d generics.Box is fits known = and_then (one _ d.args fits known) (λ a. sure (box a.0, (is, a.1)))
+  generic_made d generics.Array is fits known = and_then (one _ d.args fits known) (λ a. sure (array a.0, (is, a.1)))
+  generic_made d generics.Snapshot is fits known = and_then (one _ d.args fits known) (λ a. sure (snapshot a.0, (is, a.1)))
+  generic_made d generics.Struct is (members, fits) known = and_then (user_made d.args members fits known) (λ a. sure (struct a.0 a.1, (is, members, a.2, a.3)))
+  generic_made d generics.Enum is (variant, more, fits) known = and_then (user_made d.args (variant ∷ more) fits known) (λ a. sure (enum a.0 a.1, (is, variant ∷ more, a.2, a.3)))
+  generic_made d generics.Dict is fits known = and_then (numbered d.args fits known) (λ a. sure (dict a.0, (is, a.1)))
+  generic_made d generics.DictEntry is fits known = and_then (numbered d.args fits known) (λ a. sure (dict_entry a.0, (is, a.1)))
+  generic_made d generics.SquashedDict is fits known = and_then (numbered d.args fits known) (λ a. sure (squashed_dict a.0, (is, a.1)))
+  generic_made d generics.Uninitialized is fits known = and_then (one _ d.args fits known) (λ a. sure (uninitialized a.0, (is, a.1)))
 
   -- arguments that fit make a type
   pub type_made : (d : TypeDecl) → Fits ds d.generic d.args → AreKnown d.args → Undeniable ((ty : Ty) × HasArgs ds ty d)

@@ -7,5 +7,5 @@ Undeniable A = (A → ⊥) → ⊥
 pub sure : {A : Type 0} → A → Undeniable A
 sure a denied = denied a
 
-pub then : {A B : Type 0} → Undeniable A → (A → Undeniable B) → Undeniable B
-then a next denied = a (λ x. next x denied)
+pub and_then : {A B : Type 0} → Undeniable A → (A → Undeniable B) → Undeniable B
+and_then a next denied = a (λ x. next x denied)

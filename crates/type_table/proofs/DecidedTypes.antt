@@ -18,7 +18,7 @@ use Rattle.type_table.specs.Refusals.{named_types, arguments, BreaksType}
 use Rattle.type_table.proofs.Plain.{none-some}
 use Rattle.type_table.proofs.Places.{declared_place}
 use Rattle.type_table.proofs.Acyclic.{targets_are, type_named}
-use Rattle.type_table.proofs.DecidedDoubt.{Undeniable, sure, then}
+use Rattle.type_table.proofs.DecidedDoubt.{Undeniable, sure, and_then}
 use Rattle.type_table.proofs.DecidedLists.{at_below, contains_at, filter_map_at}
 use Rattle.type_table.proofs.DecidedArguments.{AreKnown, type_made, fits_declared}
 use Rattle.type_table.proofs.DecidedGraphs.{along_edges}
@@ -44,7 +44,7 @@ module _ (ds : List TypeDecl) where
           let declared = declared_place ds id (fits_declared ds d fits k id is) in
           let target = filter_map_at (place_of (ids_of ds)) (named_types d.args) k id declared.0 is declared.1 in
           let leads = subst (λ l. Contains l declared.0) (sym (targets_are ds i d here)) (contains_at (targets ds d) target.0 declared.0 target.1) in
-          then (makes declared.0 leads) (λ found. sure (found.0, type_named ds found.0 id declared.0 declared.1 found.1))
+          and_then (makes declared.0 leads) (λ found. sure (found.0, type_named ds found.0 id declared.0 declared.1 found.1))
 
   type_passes : (i : ℕ) (d : TypeDecl) → slice_get ds i ≡ Some d → ((rule : TypeRule) (fault : TypeFault) → BreaksType ds i d rule fault → ⊥)
       → Fits ds d.generic d.args → (ty : Ty) → HasArgs ds ty d → Makes i
@@ -52,7 +52,7 @@ module _ (ds : List TypeDecl) where
       let allow : Undeniable (IsAllowed ty) = λ out. whole rules.ArgumentsFit (faults.BadArgs d.id) (inr (ty, args, out), refl) in
       let tell : Undeniable (InfoFits d.info ty) = λ out. whole rules.InfoFits (faults.TypeInfoDiffers d.id) (ty, args, out, refl) in
       let bound : Undeniable (IsWithin d ty) = λ out. whole rules.WithinLimits (faults.SizeAbove d.id) (ty, args, out, refl) in
-      then allow (λ allowed. then tell (λ info. then bound (λ within. sure (
+      and_then allow (λ allowed. and_then tell (λ info. and_then bound (λ within. sure (
         ty,
         record {
           decl = d;
@@ -72,7 +72,7 @@ module _ (ds : List TypeDecl) where
     step i inside makes =
         let at = at_below ds i (below i inside) in
         let fit : Undeniable (Fits ds at.0.generic at.0.args) = λ out. whole i at.0 inside at.1 rules.ArgumentsFit (faults.BadArgs at.0.id) (inl out, refl) in
-        then fit (λ fits. then (arguments_make i at.0 at.1 fits makes) (λ made. type_passes i at.0 at.1 (whole i at.0 inside at.1) fits made.0 made.1))
+        and_then fit (λ fits. and_then (arguments_make i at.0 at.1 fits makes) (λ made. type_passes i at.0 at.1 (whole i at.0 inside at.1) fits made.0 made.1))
 
     pub each_makes : (i : ℕ) → In i → Makes i
     each_makes i inside = along_edges (arguments ds) (length ds) In Makes below holds_named acyclic step i inside
@@ -87,7 +87,7 @@ module _ (ds : List TypeDecl) where
     all_made : (n : ℕ) → n ≤ length ds → Undeniable ((rows : List RowView) × AreRows ds rows n)
     all_made zero few = sure ([], record { long = refl; each = λ i row is. absurd (none-some row is) })
     all_made (suc n) few =
-        then (all_made n (omega (arith, few))) (λ before. then (each_makes (λ i. i < length ds) (λ i under. under) closed (λ i d under. whole i d) n (omega (arith, few))) (λ made.
+        and_then (all_made n (omega (arith, few))) (λ before. and_then (each_makes (λ i. i < length ds) (λ i under. under) closed (λ i d under. whole i d) n (omega (arith, few))) (λ made.
         let row = row_made n made.0 made.1 in
         sure (before.0 ++ row.0 ∷ [], one_more ds n before.0 row.0 before.1 row.1)))
 

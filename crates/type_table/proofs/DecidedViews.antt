@@ -18,6 +18,7 @@ use Rattle.type_table.specs.Trees.{kind_of, user_of, parts, IsAllowed}
 use Rattle.type_table.specs.IsType.{IsType, most_cells, most_arguments, most_depth}
 use Rattle.type_table.specs.Rows.{IsTypeAt, targets}
 use Rattle.type_table.specs.Refusals.{named_type, named_types, positions_of, parameter_types, IsRepeatedId, FunctionRule, types_known, named_once, BreaksFunction, Spot, in_libfunc, in_function, Breaks}
+use Rattle.type_table.specs.Parts.{HasOrdinaryParts}
 use Rattle.type_table.specs.View.{TypesView, RowView, FunctionView, tree_of, HasTree, IsRow, IsFunction, IsTable}
 use Rattle.type_table.specs.Table.{ArePositions, HasSignature, HasTypes}
 use Rattle.type_table.proofs.Plain.{some_is, cons-nil}
@@ -26,6 +27,7 @@ use Rattle.type_table.proofs.Unique.{one_position}
 use Rattle.type_table.proofs.Acyclic.{parts_at}
 use Rattle.type_table.proofs.DecidedLists.{at_below, map_at, length_filter_map, left_at, right_at, heads, behind}
 use Rattle.type_table.proofs.DecidedClean.{all_known}
+use Rattle.type_table.proofs.DecidedParts.{parts_ordinary}
 use Rattle.type_table.proofs.DecidedRows.{id_of, AreRows, tree_is, trees_are, type_at, all_below, id_once, type_named_at}
 
 -- the functions of a table are as declared, and neither they nor ids of libfuncs break a rule
@@ -57,6 +59,7 @@ module _ (p : Program) (view : TypesView) (ids_are : view.ids ≡ ids_of p.types
         members = ap (map (λ t. tree_of view t.0)) is.members ∙ trees_are p.types view.rows are (parts is.ty) (targets p.types decl) (parts_at p.types is.ty decl is.at.args) ∙ ap parts tree;
         below = subst (All (λ t. t.0 < length view.rows)) (sym is.members) (all_below p.types view.rows are (named_types decl.args));
         few_members = subst (λ l. length l ≤ most_arguments) (sym is.members) (few decl passes.within.few_arguments);
+        ordinary = subst HasOrdinaryParts tree (parts_ordinary p.types is.ty decl is.at.args passes.fits);
         allowed = subst IsAllowed tree passes.allowed;
         few_cells = subst (λ t. size t ≤ most_cells) tree passes.within.few_cells;
         shallow = subst (λ t. depth t ≤ most_depth) tree passes.within.shallow;

@@ -1,10 +1,9 @@
 -- The facts that the code computes of a type are those of its tree.
-use Rattle.std.proofs.Common.{◌≡◌, ℕ, ◌+◌, ◌≤◌, min, max, Bool, List, [], ◌∷◌, map, refl, ap, sym, ◌∙◌, arith}
+use Rattle.std.proofs.Common.{◌≡◌, ℕ, ◌+◌, ◌≤◌, max, List, [], ◌∷◌, map, refl, ap, ◌∙◌, arith}
 use Rattle.std.specs.Prelude.{fold, ◌&&◌, ◌||◌}
 use Rattle.std.specs.List.{list_all, list_any}
 use Rattle.type_trees.specs.Ty as trees
 use Rattle.type_trees.specs.Ty.{Ty, Tys, struct, enum, box, array, snapshot, uninitialized}
-use Rattle.type_table.specs.declared.facts.Facts.{Facts}
 use Rattle.type_table.specs.declared.kind.TypeKind.TheVariants as kinds
 use Rattle.type_table.specs.IsType.{most_cells, most_depth}
 use Rattle.type_table.specs.View.{joined}

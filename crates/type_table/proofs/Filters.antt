@@ -1,5 +1,5 @@
 -- What `filter_map` gives of the head of a list.
-use Rattle.std.proofs.Common.{◌≡◌, ℕ, zero, suc, ◌+◌, List, [], ◌∷◌, take, length, if◌then◌else◌, Option, Some, None, slice_get, refl, ap, sym, ◌∙◌, arith}
+use Rattle.std.proofs.Common.{◌≡◌, ℕ, zero, suc, ◌+◌, List, [], ◌∷◌, take, length, if◌then◌else◌, Option, Some, None, slice_get, refl, ap, ◌∙◌, arith}
 use Rattle.std.specs.List.{filter_map, cons_option}
 use Rattle.std.specs.Option.{is_some}
 use Rattle.type_table.proofs.Plain.{none-some, some_is, cons-nil}

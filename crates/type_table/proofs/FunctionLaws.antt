@@ -8,7 +8,6 @@ use Rattle.sierra_types.specs.declared.program.Function.{Function}
 use Rattle.sierra_types.specs.declared.program.LibfuncDecl.{LibfuncDecl}
 use Rattle.sierra_types.specs.declared.program.TypeDecl.{TypeDecl}
 use Rattle.type_table.specs.declared.fault.TypeFault.{TypeFault}
-use Rattle.type_table.specs.declared.fault.TypeFault.TheVariants as faults
 use Rattle.type_table.specs.declared.rules.TypeRule.{TypeRule}
 use Rattle.type_table.specs.declared.row.Row.{Row}
 use Rattle.type_table.specs.declared.row.Signature.{Signature}

@@ -1,10 +1,7 @@
 -- What arguments give, and that a generic type takes it if and only if the arguments fit.
-use Rattle.std.proofs.Common.{◌≡◌, ◌≢◌, ◌⊎◌, inl, inr, ℕ, zero, suc, ◌+◌, ◌<◌, ◌≤◌, Bool, true, false, true≢false, ◌&&◌, List, [], ◌∷◌, length, map, get_or, Option, Some, None, option_map, slice_get, refl, ap, sym, subst, ◌∙◌, arith}
-use Rattle.std.specs.Prelude.{codes}
-use Rattle.std.specs.List.{All, list_all, cons_option}
+use Rattle.std.proofs.Common.{◌≡◌, ◌⊎◌, inl, inr, ℕ, zero, suc, Bool, true, false, true≢false, ◌&&◌, List, [], ◌∷◌, length, get_or, Option, Some, None, option_map, refl, ap, sym, subst, ◌∙◌, arith}
+use Rattle.std.specs.List.{All, cons_option}
 use Rattle.std.proofs.lemmas.Option.{slice_get-map, get_or_from_slice_get}
-use Rattle.std.proofs.lemmas.Bool.{and_parts}
-use Rattle.type_trees.specs.Ty.{number_name}
 use Rattle.type_trees.specs.declared.num.Num.{Num}
 use Rattle.sierra_types.specs.declared.program.TypeDecl.{TypeDecl}
 use Rattle.sierra_types.specs.declared.program.Arg.{Arg}
@@ -17,15 +14,16 @@ use Rattle.type_table.specs.declared.forms.Form.{Form}
 use Rattle.type_table.specs.declared.forms.Form.TheVariants as forms
 use Rattle.type_table.specs.declared.forms.Given.{Given}
 use Rattle.type_table.specs.declared.forms.Given.TheVariants as givens
-use Rattle.type_table.specs.Naming.{Names, IsDeclared, place_of, ids_of}
+use Rattle.type_table.specs.Naming.{Names, place_of, ids_of}
 use Rattle.type_table.specs.Generics.{generic_name, IsNumber, IsOrdinary, IsInitialized, NamesType, FitsGeneric, OneType}
 use Rattle.type_table.specs.Named.{generic_named}
 use Rattle.type_table.specs.Refusals.{named_types, positions_of}
-use Rattle.type_table.specs.Resolving.{type_args, written}
+use Rattle.type_table.specs.Resolving.{type_args}
 use Rattle.type_table.specs.Forms.{IsForm, is_ordinary, is_initialized, generic_at, all_ordinary, given_members, given_types, given_of, number_given, if_true, nothing_given, type_given, initialized_given, members_given, variants_given, kind_given}
-use Rattle.type_table.proofs.Plain.{none-some, some_is, cons-nil}
-use Rattle.type_table.proofs.NamedLaws.{named-name, named_right, same_generic}
-use Rattle.type_table.proofs.Places.{named_at, names_place, names_once, declared_place}
+use Rattle.type_table.specs.Resolved.{all_generics, AreKnown}
+use Rattle.type_table.proofs.Plain.{none-some, cons-nil}
+use Rattle.type_table.proofs.NamedLaws.{named-name, named_right}
+use Rattle.type_table.proofs.Places.{named_at, names_once, declared_place}
 
 -- ---- generic names
 
@@ -65,7 +63,7 @@ all_tail P x xs each k d less = each (suc k) d (omega (arith, less))
 all_none : {X : Type 0} (P : X → Type 0) → All P []
 all_none P k d less = absurd (omega (arith, less))
 
-abbrev tail_of : {X : Type 0} → List X → List X
+abbrev pub tail_of : {X : Type 0} → List X → List X
 tail_of [] = []
 tail_of (x ∷ xs) = xs
 
@@ -81,16 +79,9 @@ type_arg_is a b same = ap id_in same
     id_in _ = a
 
 module _ (ds : List TypeDecl) where
-  abbrev pub all_generics : List (Option Generic)
-  all_generics = map (λ d. generic_named d.generic) ds
-
-  -- each id is declared
-  abbrev pub AreKnown : List (List ℕ) → Type 0
-  AreKnown ids = (k : ℕ) (id : List ℕ) → slice_get ids k ≡ Some id → IsDeclared ds id
-
-  pub generic_of_named : (id : List ℕ) (t : ℕ) (e : TypeDecl) → Names ds id t e → generic_at all_generics t ≡ generic_named e.generic
+  pub generic_of_named : (id : List ℕ) (t : ℕ) (e : TypeDecl) → Names ds id t e → generic_at (all_generics ds) t ≡ generic_named e.generic
   generic_of_named id t e names =
-      get_or_from_slice_get all_generics t (generic_named e.generic) None
+      get_or_from_slice_get (all_generics ds) t (generic_named e.generic) None
       (slice_get-map (λ d. generic_named d.generic) ds t ∙ ap (option_map (λ d. generic_named d.generic)) names.here)
 
   names_type : (Is : List ℕ → Type 0) (id : List ℕ) (t : ℕ) (e : TypeDecl) → Names ds id t e → Is e.generic → NamesType ds Is (OfType id)
@@ -111,9 +102,9 @@ module _ (ds : List TypeDecl) where
       (args ≡ [] → ⊥) × ((id : List ℕ) → args ≡ OfType id ∷ [] → ⊥) × ((name : List ℕ) (members : List Arg) → args ≡ User name ∷ members → All (NamesType ds IsOrdinary) members → ⊥)
 
   -- members that are types, each with an ordinary generic name or one without
-  pub ordinary_members : (ids : List (List ℕ)) → AreKnown ids
-      → ((all_ordinary all_generics (positions_of ds ids) ≡ true) × All (NamesType ds IsOrdinary) (type_args ids) × (length (type_args ids) ≡ length (positions_of ds ids)))
-      ⊎ ((all_ordinary all_generics (positions_of ds ids) ≡ false) × (All (NamesType ds IsOrdinary) (type_args ids) → ⊥))
+  pub ordinary_members : (ids : List (List ℕ)) → AreKnown ds ids
+      → ((all_ordinary (all_generics ds) (positions_of ds ids) ≡ true) × All (NamesType ds IsOrdinary) (type_args ids) × (length (type_args ids) ≡ length (positions_of ds ids)))
+      ⊎ ((all_ordinary (all_generics ds) (positions_of ds ids) ≡ false) × (All (NamesType ds IsOrdinary) (type_args ids) → ⊥))
   ordinary_members [] known = inl (refl, all_none (NamesType ds IsOrdinary), refl)
   ordinary_members (id ∷ ids) known =
       let place = declared_place ds id (known 0 id refl) in
@@ -123,28 +114,28 @@ module _ (ds : List TypeDecl) where
     where
       Whole : List ℕ → Type 0
       Whole ts =
-          ((all_ordinary all_generics ts ≡ true) × All (NamesType ds IsOrdinary) (OfType id ∷ type_args ids) × (suc (length (type_args ids)) ≡ length ts))
-          ⊎ ((all_ordinary all_generics ts ≡ false) × (All (NamesType ds IsOrdinary) (OfType id ∷ type_args ids) → ⊥))
+          ((all_ordinary (all_generics ds) ts ≡ true) × All (NamesType ds IsOrdinary) (OfType id ∷ type_args ids) × (suc (length (type_args ids)) ≡ length ts))
+          ⊎ ((all_ordinary (all_generics ds) ts ≡ false) × (All (NamesType ds IsOrdinary) (OfType id ∷ type_args ids) → ⊥))
 
       by : (t : ℕ) (e : TypeDecl) → Names ds id t e → (b : Bool) → is_ordinary (generic_named e.generic) ≡ b
-          → ((all_ordinary all_generics (positions_of ds ids) ≡ true) × All (NamesType ds IsOrdinary) (type_args ids) × (length (type_args ids) ≡ length (positions_of ds ids)))
-          ⊎ ((all_ordinary all_generics (positions_of ds ids) ≡ false) × (All (NamesType ds IsOrdinary) (type_args ids) → ⊥))
-          → ((all_ordinary all_generics (t ∷ positions_of ds ids) ≡ true) × All (NamesType ds IsOrdinary) (OfType id ∷ type_args ids) × (suc (length (type_args ids)) ≡ length (t ∷ positions_of ds ids)))
-          ⊎ ((all_ordinary all_generics (t ∷ positions_of ds ids) ≡ false) × (All (NamesType ds IsOrdinary) (OfType id ∷ type_args ids) → ⊥))
+          → ((all_ordinary (all_generics ds) (positions_of ds ids) ≡ true) × All (NamesType ds IsOrdinary) (type_args ids) × (length (type_args ids) ≡ length (positions_of ds ids)))
+          ⊎ ((all_ordinary (all_generics ds) (positions_of ds ids) ≡ false) × (All (NamesType ds IsOrdinary) (type_args ids) → ⊥))
+          → ((all_ordinary (all_generics ds) (t ∷ positions_of ds ids) ≡ true) × All (NamesType ds IsOrdinary) (OfType id ∷ type_args ids) × (suc (length (type_args ids)) ≡ length (t ∷ positions_of ds ids)))
+          ⊎ ((all_ordinary (all_generics ds) (t ∷ positions_of ds ids) ≡ false) × (All (NamesType ds IsOrdinary) (OfType id ∷ type_args ids) → ⊥))
       by t e names true told (inl (each, members, count)) =
           inl (
-            ap (λ x. x && all_ordinary all_generics (positions_of ds ids)) (ap is_ordinary (generic_of_named id t e names) ∙ told) ∙ each,
+            ap (λ x. x && all_ordinary (all_generics ds) (positions_of ds ids)) (ap is_ordinary (generic_of_named id t e names) ∙ told) ∙ each,
             all_cons (NamesType ds IsOrdinary) (OfType id) (type_args ids) (names_type IsOrdinary id t e names (ordinary_name e.generic (generic_named e.generic) refl told)) members,
             ap suc count,
           )
       by t e names true told (inr (not_all, none)) =
           inr (
-            ap (λ x. x && all_ordinary all_generics (positions_of ds ids)) (ap is_ordinary (generic_of_named id t e names) ∙ told) ∙ not_all,
+            ap (λ x. x && all_ordinary (all_generics ds) (positions_of ds ids)) (ap is_ordinary (generic_of_named id t e names) ∙ told) ∙ not_all,
             λ each. none (all_tail (NamesType ds IsOrdinary) (OfType id) (type_args ids) each),
           )
       by t e names false told rest =
           inr (
-            ap (λ x. x && all_ordinary all_generics (positions_of ds ids)) (ap is_ordinary (generic_of_named id t e names) ∙ told),
+            ap (λ x. x && all_ordinary (all_generics ds) (positions_of ds ids)) (ap is_ordinary (generic_of_named id t e names) ∙ told),
             λ each. true≢false (sym (is_ordinary_name e.generic (generic_named e.generic) refl
                 (type_named IsOrdinary id t e names (all_head (NamesType ds IsOrdinary) (OfType id) (type_args ids) each))) ∙ told),
           )
@@ -164,26 +155,26 @@ module _ (ds : List TypeDecl) where
     λ name members user each. true≢false (ap first_is_type (sym is ∙ user)),
   )
 
-  types_given : (ids : List (List ℕ)) (args : List Arg) → args ≡ type_args ids → AreKnown ids → IsGiven (given_types all_generics (positions_of ds ids)) args
+  types_given : (ids : List (List ℕ)) (args : List Arg) → args ≡ type_args ids → AreKnown ds ids → IsGiven (given_types (all_generics ds) (positions_of ds ids)) args
   types_given [] args is known = is
   types_given (id ∷ []) args is known =
       let place = declared_place ds id (known 0 id refl) in
       let named = named_at ds id place.0 place.1 in
-      subst (λ o. IsGiven (given_types all_generics (cons_option o [])) args) (sym place.1)
+      subst (λ o. IsGiven (given_types (all_generics ds) (cons_option o [])) args) (sym place.1)
       (id, place.0, named.0, is, named.1, generic_of_named id place.0 named.0 named.1)
   types_given (a ∷ b ∷ ids) args is known =
       let first = declared_place ds a (known 0 a refl) in
       let second = declared_place ds b (known 1 b refl) in
-      subst (λ o. IsGiven (given_types all_generics (cons_option o (cons_option (place_of (ids_of ds) b) (positions_of ds ids)))) args) (sym first.1)
-      (subst (λ o. IsGiven (given_types all_generics (first.0 ∷ cons_option o (positions_of ds ids))) args) (sym second.1) (two_types a b ids args is))
+      subst (λ o. IsGiven (given_types (all_generics ds) (cons_option o (cons_option (place_of (ids_of ds) b) (positions_of ds ids)))) args) (sym first.1)
+      (subst (λ o. IsGiven (given_types (all_generics ds) (first.0 ∷ cons_option o (positions_of ds ids))) args) (sym second.1) (two_types a b ids args is))
 
-  members_given_right : (name : List ℕ) (ids : List (List ℕ)) (args : List Arg) → args ≡ User name ∷ type_args ids → AreKnown ids
-      → IsGiven (given_members (all_ordinary all_generics (positions_of ds ids)) (length (positions_of ds ids))) args
+  members_given_right : (name : List ℕ) (ids : List (List ℕ)) (args : List Arg) → args ≡ User name ∷ type_args ids → AreKnown ds ids
+      → IsGiven (given_members (all_ordinary (all_generics ds) (positions_of ds ids)) (length (positions_of ds ids))) args
   members_given_right name ids args is known = by (ordinary_members ids known)
     where
-      by : ((all_ordinary all_generics (positions_of ds ids) ≡ true) × All (NamesType ds IsOrdinary) (type_args ids) × (length (type_args ids) ≡ length (positions_of ds ids)))
-          ⊎ ((all_ordinary all_generics (positions_of ds ids) ≡ false) × (All (NamesType ds IsOrdinary) (type_args ids) → ⊥))
-          → IsGiven (given_members (all_ordinary all_generics (positions_of ds ids)) (length (positions_of ds ids))) args
+      by : ((all_ordinary (all_generics ds) (positions_of ds ids) ≡ true) × All (NamesType ds IsOrdinary) (type_args ids) × (length (type_args ids) ≡ length (positions_of ds ids)))
+          ⊎ ((all_ordinary (all_generics ds) (positions_of ds ids) ≡ false) × (All (NamesType ds IsOrdinary) (type_args ids) → ⊥))
+          → IsGiven (given_members (all_ordinary (all_generics ds) (positions_of ds ids)) (length (positions_of ds ids))) args
       by (inl (each, members, count)) =
           subst (λ b. IsGiven (given_members b (length (positions_of ds ids))) args) (sym each) (name, type_args ids, is, members, count)
       by (inr (not_all, none)) =
@@ -193,7 +184,7 @@ module _ (ds : List TypeDecl) where
             λ other members user each. none (subst (All (NamesType ds IsOrdinary)) (ap tail_of (sym user ∙ is)) each),
           )
 
-  pub given_right : (form : Form) (args : List Arg) → IsForm form args → AreKnown (named_types args) → IsGiven (given_of form all_generics (positions_of ds (named_types args))) args
+  pub given_right : (form : Form) (args : List Arg) → IsForm form args → AreKnown ds (named_types args) → IsGiven (given_of form (all_generics ds) (positions_of ds (named_types args))) args
   given_right forms.Types args is known = types_given (named_types args) args is known
   given_right (forms.User name) args is known = members_given_right name.now (named_types args) args is known
   given_right forms.Other args is known = (

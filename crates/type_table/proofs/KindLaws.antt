@@ -1,11 +1,11 @@
 -- What a declaration makes of the types that its arguments name.
-use Rattle.std.proofs.Common.{◌≡◌, ◌⊎◌, inl, inr, ℕ, suc, Bool, true, false, true≢false, List, [], ◌∷◌, map, Option, Some, None, slice_get, refl, ap, sym, subst, ◌∙◌, arith}
+use Rattle.std.proofs.Common.{◌≡◌, ℕ, suc, Bool, true, false, true≢false, List, [], ◌∷◌, Option, Some, None, refl, ap, sym, subst, ◌∙◌}
 use Rattle.std.specs.List.{AllZip, cons_option}
-use Rattle.type_trees.specs.Ty.{Ty, Tys, number, nonzero, range_check, gas_builtin, box, array, snapshot, struct, enum, dict, dict_entry, squashed_dict, uninitialized}
+use Rattle.type_trees.specs.Ty.{Ty, number, nonzero, range_check, gas_builtin, box, array, snapshot, struct, enum, dict, dict_entry, squashed_dict, uninitialized}
 use Rattle.type_trees.specs.declared.num.Num.{Num}
 use Rattle.sierra_types.specs.declared.program.TypeDecl.{TypeDecl}
 use Rattle.sierra_types.specs.declared.program.Arg.{Arg}
-use Rattle.sierra_types.specs.declared.program.Arg.TheVariants.{OfType, User}
+use Rattle.sierra_types.specs.declared.program.Arg.TheVariants.{OfType}
 use Rattle.type_table.specs.declared.generic.Generic.{Generic}
 use Rattle.type_table.specs.declared.generic.Generic.TheVariants as generics
 use Rattle.type_table.specs.declared.kind.TypeKind.{TypeKind}
@@ -14,22 +14,23 @@ use Rattle.type_table.specs.declared.forms.Form.{Form}
 use Rattle.type_table.specs.declared.forms.Form.TheVariants as forms
 use Rattle.type_table.specs.declared.forms.Given.{Given}
 use Rattle.type_table.specs.declared.forms.Given.TheVariants as givens
-use Rattle.type_table.specs.Naming.{Names, place_of, ids_of}
+use Rattle.type_table.specs.Naming.{Names}
 use Rattle.type_table.specs.Generics.{generic_name}
 use Rattle.type_table.specs.Named.{generic_named}
-use Rattle.type_table.specs.Trees.{kind_of, generic_of, user_of, parts}
+use Rattle.type_table.specs.Trees.{kind_of, generic_of}
 use Rattle.type_table.specs.IsType.{HasArgs, IsType}
 use Rattle.type_table.specs.Refusals.{named_types, positions_of}
-use Rattle.type_table.specs.Resolving.{type_args, written, user_in}
+use Rattle.type_table.specs.Resolving.{written, user_in}
 use Rattle.type_table.specs.Rows.{IsTypeAt, targets}
 use Rattle.type_table.specs.Forms.{IsForm, given_of, kind_given, nothing_given, number_given, type_given, initialized_given, members_given, variants_given, if_true, is_ordinary, is_initialized}
-use Rattle.type_table.proofs.Plain.{none-some, some_is, cons-nil}
-use Rattle.type_table.proofs.NamedLaws.{named-name, named_right, same_generic}
+use Rattle.type_table.proofs.Plain.{none-some, some_is}
+use Rattle.type_table.proofs.NamedLaws.{named_right, same_generic}
 use Rattle.type_table.proofs.Places.{names_place}
-use Rattle.type_table.proofs.Trees.{Arguments, arguments_of, has_args}
-use Rattle.type_table.proofs.Unique.{user_in-written, named_types-written}
+use Rattle.type_table.proofs.Trees.{arguments_of, has_args}
+use Rattle.type_table.proofs.Unique.{user_in-written}
 use Rattle.type_table.proofs.Acyclic.{types_named}
-use Rattle.type_table.proofs.GivenLaws.{IsGiven, AreKnown, all_generics, given_right}
+use Rattle.type_table.specs.Resolved.{all_generics, IsClear}
+use Rattle.type_table.proofs.GivenLaws.{IsGiven, given_right}
 use Rattle.type_table.proofs.MadeLaws.{Takes, made, kind_of-made, user_of-made, parts-made}
 
 abbrev is_number : Generic → Bool
@@ -151,7 +152,7 @@ module _ (ds : List TypeDecl) where
   given_takes generics.Uninitialized given args tys found = initialized_taken given args tys found
 
   -- nothing is made of other arguments
-  none_of_other : (g : Generic) → kind_given g givens.Other ≡ None
+  pub none_of_other : (g : Generic) → kind_given g givens.Other ≡ None
   none_of_other (generics.Number num) = refl
   none_of_other generics.RangeCheck = refl
   none_of_other generics.GasBuiltin = refl
@@ -166,14 +167,7 @@ module _ (ds : List TypeDecl) where
   none_of_other generics.SquashedDict = refl
   none_of_other generics.Uninitialized = refl
 
-  -- what is known of a declaration whose names are known, and whose arguments fit a kind of type
-  pub record IsClear (d : TypeDecl) (g : Generic) (form : Form) (kind : TypeKind) : Type 0 where
-    pub generic : generic_named d.generic ≡ Some g
-    pub form_right : IsForm form d.args
-    pub known : AreKnown ds (named_types d.args)
-    pub kind_is : kind_given g (given_of form (all_generics ds) (targets ds d)) ≡ Some kind
-
-  args_written : (form : Form) (g : Generic) (given : List (Option Generic)) (ts : List ℕ) (args : List Arg) (kind : TypeKind) → IsForm form args → kind_given g (given_of form given ts) ≡ Some kind
+  pub args_written : (form : Form) (g : Generic) (given : List (Option Generic)) (ts : List ℕ) (args : List Arg) (kind : TypeKind) → IsForm form args → kind_given g (given_of form given ts) ≡ Some kind
       → args ≡ written (user_in args) (named_types args)
   args_written forms.Types g given ts args kind is told =
       is ∙ ap (λ user. written user (named_types args)) (sym (ap user_in is ∙ user_in-written None (named_types args)))
@@ -181,12 +175,12 @@ module _ (ds : List TypeDecl) where
       is ∙ ap (λ user. written user (named_types args)) (sym (ap user_in is))
   args_written forms.Other g given ts args kind is told = absurd (none-some kind (sym (none_of_other g) ∙ told))
 
-  pub clear_takes : (d : TypeDecl) (g : Generic) (form : Form) (kind : TypeKind) (tys : List Ty) → IsClear d g form kind → AllZip (IsTypeAt ds) tys (targets ds d)
+  pub clear_takes : (d : TypeDecl) (g : Generic) (form : Form) (kind : TypeKind) (tys : List Ty) → IsClear ds d g form kind → AllZip (IsTypeAt ds) tys (targets ds d)
       → Takes kind (user_in d.args) tys × (generic_of kind ≡ g)
   clear_takes d g form kind tys clear each = given_takes g (given_of form (all_generics ds) (targets ds d)) d.args tys kind (given_right ds form d.args clear.form_right clear.known) each clear.kind_is
 
   -- the declaration makes a type of the types at the positions that its arguments name
-  pub clear_makes : (d : TypeDecl) (g : Generic) (form : Form) (kind : TypeKind) (tys : List Ty) → IsClear d g form kind → AllZip (IsTypeAt ds) tys (targets ds d) → HasArgs ds (made kind (user_in d.args) tys) d
+  pub clear_makes : (d : TypeDecl) (g : Generic) (form : Form) (kind : TypeKind) (tys : List Ty) → IsClear ds d g form kind → AllZip (IsTypeAt ds) tys (targets ds d) → HasArgs ds (made kind (user_in d.args) tys) d
   clear_makes d g form kind tys clear each =
       let (takes, same) = clear_takes d g form kind tys clear each in
       let wrote = args_written form g (all_generics ds) (targets ds d) d.args kind clear.form_right clear.kind_is in

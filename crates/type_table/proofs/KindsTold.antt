@@ -1,12 +1,12 @@
 -- What is told of a declaration's kind is right.
-use Rattle.std.proofs.Common.{◌≡◌, ◌≢◌, ◌⊎◌, inl, inr, ℕ, zero, suc, ◌+◌, ◌<◌, ◌≤◌, List, [], ◌∷◌, length, Option, Some, None, slice_get, refl, ap, sym, subst, ◌∙◌, arith}
-use Rattle.std.specs.List.{filter_map, cons_option}
+use Rattle.std.proofs.Common.{◌≡◌, ◌≢◌, ℕ, zero, suc, ◌<◌, ◌≤◌, List, [], ◌∷◌, length, Option, Some, None, slice_get, refl, ap, sym, subst, ◌∙◌, arith}
+use Rattle.std.specs.List.{cons_option}
 use Rattle.sierra_types.specs.declared.program.TypeDecl.{TypeDecl}
 use Rattle.type_table.specs.Naming.{IsDeclared, place_of, ids_of}
 use Rattle.type_table.specs.Refusals.{IsFirstUnknown, positions_of}
 use Rattle.type_table.proofs.Plain.{none-some, some_is}
 use Rattle.type_table.proofs.Places.{place_declared, declared_place}
-use Rattle.type_table.proofs.GivenLaws.{AreKnown}
+use Rattle.type_table.specs.Resolved.{AreKnown}
 
 module _ (ds : List TypeDecl) where
   few_positions : (ids : List (List ℕ)) → length (positions_of ds ids) ≤ length ids

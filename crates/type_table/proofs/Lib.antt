@@ -19,6 +19,7 @@ pub mod KindLaws
 pub mod OutcomeLaws
 pub mod KindsTold
 pub mod WrittenLaws
+pub mod RepeatSteps
 pub mod DecidedLists
 pub mod DecidedFaults
 pub mod DecidedNever
@@ -26,6 +27,7 @@ pub mod DecidedTables
 pub mod DecidedDoubt
 pub mod DecidedClean
 pub mod DecidedGraphs
+pub mod DecidedParts
 pub mod DecidedRows
 pub mod DecidedArguments
 pub mod DecidedTypes
@@ -33,4 +35,8 @@ pub mod DecidedViews
 pub mod DecidedReached
 pub mod Decided
 pub mod Joined
-pub mod RepeatSteps
+pub mod ResolvedLaws
+pub mod JudgeSteps
+pub mod ShapeLaws
+pub mod FaultLaws
+pub mod RowsMade

@@ -1,38 +1,16 @@
 -- The type that a declaration makes of the types that its arguments name: its parts, its facts, and what is asked of them.
-use Rattle.std.proofs.Common.{◌≡◌, ◌↔◌, ◌⊎◌, inl, inr, ℕ, zero, suc, ◌+◌, ◌<◌, ◌≤◌, min, Bool, true, false, true≢false, not, ◌&&◌, List, [], ◌∷◌, map, Option, Some, None, unwrap_or, refl, ap, sym, subst, ◌∙◌, arith}
+use Rattle.std.proofs.Common.{◌≡◌, ◌↔◌, ℕ, Bool, true, false, not, ◌&&◌, List, [], ◌∷◌, map, Option, Some, None, unwrap_or, refl, ap, sym, subst, ◌∙◌, arith}
 use Rattle.std.specs.Prelude.{nat_lt}
-use Rattle.std.specs.List.{AllZip, cons_option}
 use Rattle.std.proofs.lemmas.Bool.{and_parts}
-use Rattle.type_trees.specs.Ty.{Ty, Tys, number, nonzero, range_check, gas_builtin, box, array, snapshot, struct, enum, dict, dict_entry, squashed_dict, uninitialized, no_types, types, size, storable, holds_dict, duplicable}
-use Rattle.type_trees.specs.declared.num.Num.{Num}
-use Rattle.sierra_types.specs.declared.program.TypeDecl.{TypeDecl}
-use Rattle.sierra_types.specs.declared.program.Arg.{Arg}
-use Rattle.sierra_types.specs.declared.program.Arg.TheVariants.{OfType, User}
-use Rattle.type_table.specs.declared.generic.Generic.{Generic}
-use Rattle.type_table.specs.declared.generic.Generic.TheVariants as generics
+use Rattle.type_trees.specs.Ty.{Ty, number, size, storable, holds_dict, duplicable}
 use Rattle.type_table.specs.declared.kind.TypeKind.{TypeKind}
 use Rattle.type_table.specs.declared.kind.TypeKind.TheVariants as kinds
-use Rattle.type_table.specs.declared.facts.Facts.{Facts}
-use Rattle.type_table.specs.declared.forms.Given.{Given}
-use Rattle.type_table.specs.declared.forms.Given.TheVariants as givens
-use Rattle.type_table.specs.Naming.{Names, place_of, ids_of}
-use Rattle.type_table.specs.Generics.{generic_name}
-use Rattle.type_table.specs.Named.{generic_named}
-use Rattle.type_table.specs.Trees.{kind_of, generic_of, user_of, listed, parts, IsAllowed, IsElement, HasSnapshots}
+use Rattle.type_table.specs.Trees.{kind_of, user_of, listed, parts, IsAllowed, IsElement, HasSnapshots}
 use Rattle.type_table.specs.IsType.{most_cells}
-use Rattle.type_table.specs.Refusals.{named_types, positions_of}
-use Rattle.type_table.specs.Resolving.{user_in}
-use Rattle.type_table.specs.Rows.{IsTypeAt}
 use Rattle.type_table.specs.View.{made_of, joined}
 use Rattle.type_table.specs.Facts.{facts_of, capped}
 use Rattle.type_table.specs.Judging.{facts_given, is_allowed, is_element, has_snapshots}
-use Rattle.type_table.specs.Forms.{kind_given, nothing_given, number_given, type_given, initialized_given, members_given, variants_given, if_true, is_ordinary, is_initialized}
-use Rattle.type_table.proofs.Plain.{none-some, some_is}
-use Rattle.type_table.proofs.NamedLaws.{named-name, named_right, same_generic}
-use Rattle.type_table.proofs.Places.{names_place}
-use Rattle.type_table.proofs.Trees.{Arguments, arguments_of}
 use Rattle.type_table.proofs.FactLaws.{struct_facts, enum_facts, box_facts, array_facts, snapshot_facts, uninitialized_facts}
-use Rattle.type_table.proofs.GivenLaws.{IsGiven}
 
 -- the kind of type takes such a name behind `ut@` and such type arguments
 abbrev pub Takes : TypeKind → Option (List ℕ) → List Ty → Type 0

@@ -1,9 +1,8 @@
 -- What is found of a declaration is right: of its type, of the first rule that it breaks, or that it reaches a refused type.
-use Rattle.std.proofs.Common.{◌≡◌, ◌↔◌, ◌⊎◌, inl, inr, ℕ, zero, suc, ◌+◌, ◌<◌, ◌≤◌, min, Bool, true, false, true≢false, not, ◌&&◌, if◌then◌else◌, List, [], ◌∷◌, map, length, get_or, Option, Some, None, option_map, slice_get, refl, ap, sym, subst, ◌∙◌, arith}
+use Rattle.std.proofs.Common.{◌≡◌, ◌↔◌, inl, inr, ℕ, zero, suc, ◌+◌, ◌<◌, ◌≤◌, min, Bool, true, false, true≢false, not, ◌&&◌, if◌then◌else◌, List, [], ◌∷◌, map, length, get_or, Option, Some, None, option_map, slice_get, refl, ap, sym, subst, ◌∙◌, arith}
 use Rattle.std.specs.Prelude.{nat_lt, nat_le, ◌==◌}
 use Rattle.std.specs.List.{AllZip, Contains}
 use Rattle.std.proofs.lemmas.Bool.{and_parts}
-use Rattle.std.proofs.lemmas.Option.{get_or_from_slice_get, slice_get_within, slice_get-get_or}
 use Rattle.graph_cycles.specs.Graph.{OnCycle}
 use Rattle.type_trees.specs.Ty.{Ty, size, depth, storable, droppable, duplicable}
 use Rattle.sierra_types.specs.declared.program.TypeDecl.{TypeDecl}
@@ -15,33 +14,33 @@ use Rattle.type_table.specs.declared.kind.TypeKind.{TypeKind}
 use Rattle.type_table.specs.declared.facts.Facts.{Facts}
 use Rattle.type_table.specs.declared.forms.Form.{Form}
 use Rattle.type_table.specs.declared.outcome.Known.{Known}
-use Rattle.type_table.specs.declared.outcome.Outcome.{Outcome}
 use Rattle.type_table.specs.declared.outcome.Outcome.TheVariants as outcomes
 use Rattle.type_table.specs.declared.rules.TypeRule.{TypeRule}
 use Rattle.type_table.specs.declared.rules.TypeRule.TheVariants as rules
-use Rattle.type_table.specs.Naming.{Names, IsDeclared, ids_of}
-use Rattle.type_table.specs.Generics.{IsGeneric, Fits, FitsGeneric, generic_name}
+use Rattle.type_table.specs.Naming.{IsDeclared}
+use Rattle.type_table.specs.Generics.{IsGeneric, Fits, FitsGeneric}
 use Rattle.type_table.specs.Named.{generic_named}
-use Rattle.type_table.specs.Trees.{kind_of, user_of, parts, IsAllowed, info_of}
-use Rattle.type_table.specs.IsType.{most_cells, most_arguments, most_depth, InfoFits, IsWithin, IsRepeated, Passes, HasArgs, IsType}
-use Rattle.type_table.specs.Refusals.{named_types, IsFirstUnknown, IsUnknownName, arguments, BreaksType, type_answer}
+use Rattle.type_table.specs.Trees.{kind_of, user_of, parts, IsAllowed}
+use Rattle.type_table.specs.IsType.{most_cells, most_arguments, most_depth, InfoFits, IsWithin, IsRepeated, HasArgs, IsType}
+use Rattle.type_table.specs.Refusals.{named_types, IsUnknownName, arguments, BreaksType, type_answer}
 use Rattle.type_table.specs.Resolving.{user_in}
 use Rattle.type_table.specs.Rows.{IsTypeAt, targets}
 use Rattle.type_table.specs.Facts.{facts_of, capped}
 use Rattle.type_table.specs.Forms.{IsForm, given_of, kind_given}
 use Rattle.type_table.specs.Judging.{facts_given, is_allowed, info_fits, same}
-use Rattle.type_table.specs.Outcomes.{is_within, weighed, weighed_parts, once, found_of, facts_at, with_first, parts_at}
-use Rattle.type_table.specs.Found.{IsKnownAt, IsRightAt, BreaksFirst, BreaksNone, IsFoundOf}
+use Rattle.type_table.specs.Outcomes.{is_within, weighed, once, found_of, with_first, parts_at}
+use Rattle.type_table.specs.Found.{IsRightAt, BreaksFirst, BreaksNone, IsFoundOf}
 use Rattle.type_table.proofs.Plain.{none-some, some_is}
 use Rattle.type_table.proofs.NamedLaws.{named-name, named_right}
 use Rattle.type_table.proofs.Places.{place_declared, names_place}
-use Rattle.type_table.proofs.Trees.{Arguments, arguments_of}
+use Rattle.type_table.proofs.Trees.{arguments_of}
 use Rattle.type_table.proofs.Unique.{one_type, named_types-written}
 use Rattle.type_table.proofs.Acyclic as acyclic
 use Rattle.type_table.proofs.Acyclic.{no_cycle, no_cycle_through}
-use Rattle.type_table.proofs.GivenLaws.{AreKnown, all_generics, given_right, kind_fits, fits_kind}
+use Rattle.type_table.specs.Resolved.{AreKnown, all_generics, IsClear}
+use Rattle.type_table.proofs.GivenLaws.{given_right, kind_fits, fits_kind}
 use Rattle.type_table.proofs.MadeLaws.{Takes, made, kind_of-made, facts-made, allowed-made}
-use Rattle.type_table.proofs.KindLaws.{IsClear, clear_takes, clear_makes}
+use Rattle.type_table.proofs.KindLaws.{clear_takes, clear_makes}
 
 -- ---- tests
 

@@ -1,7 +1,6 @@
 -- Where an id is first, and what it names.
-use Rattle.std.proofs.Common.{◌≡◌, ◌≢◌, ◌↔◌, ◌⊎◌, inl, inr, ℕ, zero, suc, ◌+◌, ◌<◌, ◌≤◌, Bool, true, false, true≢false, cond, List, [], ◌∷◌, ◌++◌, map, length, Option, Some, None, option_map, slice_get, refl, ap, sym, subst, ◌∙◌, arith}
+use Rattle.std.proofs.Common.{◌≡◌, ◌≢◌, ◌⊎◌, inl, inr, ℕ, zero, suc, ◌<◌, Bool, true, false, true≢false, cond, List, [], ◌∷◌, Option, Some, None, option_map, slice_get, refl, ap, sym, subst, ◌∙◌, arith}
 use Rattle.std.specs.Prelude.{bytes_eq}
-use Rattle.std.specs.List.{Contains}
 use Rattle.std.proofs.lemmas.Slice.Eq.{bytes_eq-Decides}
 use Rattle.std.proofs.lemmas.Bool.{cases_order}
 use Rattle.std.proofs.lemmas.Option.{slice_get-map, slice_get-get_or, slice_get_within, get_or_from_slice_get}
@@ -82,7 +81,7 @@ module _ (ds : List TypeDecl) where
       let here = (place-first (ids_of ds) id i is).here in
       (i, slice_get_within (ids_of ds) i id here, get_or_from_slice_get (ids_of ds) i id id here)
 
-  decl_at : (id : List ℕ) (i : ℕ) → slice_get (ids_of ds) i ≡ Some id → (d : TypeDecl) × (slice_get ds i ≡ Some d) × (d.id ≡ id)
+  pub decl_at : (id : List ℕ) (i : ℕ) → slice_get (ids_of ds) i ≡ Some id → (d : TypeDecl) × (slice_get ds i ≡ Some d) × (d.id ≡ id)
   decl_at id i is = by (slice_get ds i) refl
     where
       by : (o : Option TypeDecl) → slice_get ds i ≡ o → (d : TypeDecl) × (slice_get ds i ≡ Some d) × (d.id ≡ id)

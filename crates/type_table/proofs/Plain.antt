@@ -1,5 +1,5 @@
 -- Options, pairs and results.
-use Rattle.std.proofs.Common.{◌≡◌, List, [], ◌∷◌, ℕ, Bool, true, false, true≢false, Option, Some, None, Result, Ok, Err, OnOk, is_some, is_ok, unwrap_or, refl, ap, sym, ◌∙◌}
+use Rattle.std.proofs.Common.{◌≡◌, List, [], ◌∷◌, Bool, true, false, true≢false, Some, None, Result, Ok, Err, OnOk, is_some, is_ok, unwrap_or, ap, sym}
 
 pub none-some : {X : Type 0} (x : X) → None ≡ Some x → ⊥
 none-some x h = true≢false (sym (ap is_some h))

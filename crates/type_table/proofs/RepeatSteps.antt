@@ -1,6 +1,5 @@
 -- Declarations taken one after another: which are written as one before.
-use Rattle.std.proofs.Common.{◌≡◌, ◌↔◌, ◌⊎◌, inl, inr, ℕ, ◌+◌, ◌<◌, ◌≤◌, Bool, true, false, true≢false, ◌||◌, if◌then◌else◌, List, [], ◌∷◌, ◌++◌, length, get_or, Option, Some, None, Result, Ok, Err, slice_get, refl, ap, sym, subst, ◌∙◌, arith}
-use Rattle.std.specs.List.{list_any}
+use Rattle.std.proofs.Common.{◌≡◌, ◌↔◌, ◌⊎◌, inl, inr, ℕ, ◌+◌, ◌<◌, ◌≤◌, Bool, true, false, true≢false, ◌||◌, if◌then◌else◌, List, [], ◌∷◌, ◌++◌, length, get_or, Some, Result, Ok, Err, slice_get, refl, ap, sym, subst, ◌∙◌, arith}
 use Rattle.std.proofs.lemmas.List.{get_or_append_left, get_or_push, length_push}
 use Rattle.std.proofs.lemmas.Bool.{cases_lt}
 use Rattle.std.proofs.lemmas.Option.{slice_get_within}
@@ -9,7 +8,7 @@ use Rattle.type_table.specs.declared.kind.TypeKind.{TypeKind}
 use Rattle.type_table.specs.declared.rules.TypeRule.{TypeRule}
 use Rattle.type_table.specs.Written.{WrittenView, same_written, has_written}
 use Rattle.type_table.specs.Repeats.{written_of, again_of, after, IsWrittenAt, IsWrittenBefore, AreRepeatsTold}
-use Rattle.type_table.proofs.Plain.{none-some, some_is, err-ok, ok_is}
+use Rattle.type_table.proofs.Plain.{some_is, err-ok, ok_is}
 use Rattle.type_table.proofs.WrittenLaws.{written_is}
 
 pub record AreTold (ds : List TypeDecl) (kinds : List (Result TypeKind TypeRule)) (graph : List (List ℕ)) (ids_repeated : List Bool) (i : ℕ) (ws : List WrittenView) (flags : List Bool) : Type 0 where

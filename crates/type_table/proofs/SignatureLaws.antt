@@ -1,5 +1,5 @@
 -- What the rules for functions say of a declaration is what the code finds by the positions and rows of its types.
-use Rattle.std.proofs.Common.{◌≡◌, ◌⊎◌, inl, inr, ℕ, zero, suc, ◌+◌, ◌<◌, ◌≤◌, Bool, true, false, true≢false, cond, not, ◌&&◌, eqb, List, [], ◌∷◌, ◌++◌, map, take, length, Option, Some, None, option_map, is_some, Result, Ok, Err, IfErr, is_ok, is_err, slice_get, refl, ap, sym, subst, ◌∙◌, arith}
+use Rattle.std.proofs.Common.{◌≡◌, ◌⊎◌, inl, inr, ℕ, zero, suc, ◌+◌, ◌<◌, ◌≤◌, Bool, true, false, true≢false, cond, not, ◌&&◌, eqb, List, [], ◌∷◌, ◌++◌, map, take, length, Option, Some, None, option_map, is_some, Result, Ok, Err, IfErr, slice_get, refl, ap, sym, subst, ◌∙◌, arith}
 use Rattle.std.specs.List.{cons_option, list_all, count_by}
 use Rattle.std.specs.Option.{option_map_or}
 use Rattle.std.specs.Result.{IsErrAnd}
@@ -37,11 +37,6 @@ use Rattle.type_table.proofs.Counted.{each_same, TestAt, all_pass, not_all, two_
 pub fault_passed : {T E : Type 0} (P : E → Type 0) (fault : E) (result : Result T E) → IsErrAnd result (λ e. e ≡ fault) → P fault → IfErr result P
 fault_passed P fault (Ok x) is holds = absurd is
 fault_passed P fault (Err e) is holds = subst P (sym is) holds
-
--- what a push that didn't fail leaves
-pub pushed : {T E X : Type 0} (r : Result T E) (items new old : List X) → is_err r ≡ false → items ≡ cond (is_ok r) new old → items ≡ new
-pushed (Ok x) items new old fine is = is
-pushed (Err e) items new old fine is = absurd (true≢false fine)
 
 -- ---- variables
 

@@ -1,21 +1,17 @@
 -- A type and its arguments, without cases on the kind of type: its generic name, the name behind `ut@`, and the types that
 -- its arguments name.
-use Rattle.std.proofs.Common.{◌≡◌, ℕ, zero, suc, ◌+◌, ◌<◌, ◌≤◌, max, List, [], ◌∷◌, map, length, Option, Some, None, unwrap_or, slice_get, refl, ap, sym, subst, ◌∙◌, arith}
+use Rattle.std.proofs.Common.{◌≡◌, ℕ, ◌+◌, ◌<◌, ◌≤◌, max, List, [], ◌∷◌, unwrap_or, refl, ap, sym, subst, ◌∙◌, arith}
 use Rattle.std.specs.List.{AllZip}
-use Rattle.std.specs.Prelude.{codes}
 use Rattle.type_trees.specs.Ty.{Ty, Tys, number, nonzero, range_check, gas_builtin, box, array, snapshot, struct, enum, dict, dict_entry, squashed_dict, uninitialized, no_types, types, depth, greatest_depth}
 use Rattle.type_trees.specs.declared.num.Num.{Num}
 use Rattle.sierra_types.specs.declared.program.TypeDecl.{TypeDecl}
 use Rattle.sierra_types.specs.declared.program.Arg.{Arg}
 use Rattle.sierra_types.specs.declared.program.Arg.TheVariants.{OfType, User}
-use Rattle.type_table.specs.declared.generic.Generic.{Generic}
-use Rattle.type_table.specs.declared.generic.Generic.TheVariants as generics
-use Rattle.type_table.specs.declared.kind.TypeKind.{TypeKind}
 use Rattle.type_table.specs.Generics.{generic_name}
 use Rattle.type_table.specs.Trees.{kind_of, generic_of, user_of, listed, parts}
-use Rattle.type_table.specs.IsType.{HasArgs, AreTypes, IsType, OneArgument, IsTypeBy, HasNumber}
+use Rattle.type_table.specs.IsType.{HasArgs, AreTypes, IsType, OneArgument}
 use Rattle.type_table.specs.Resolving.{type_args, written}
-use Rattle.type_table.specs.View.{joined, only, made_of}
+use Rattle.type_table.specs.View.{joined, made_of}
 
 pub record Arguments (ds : List TypeDecl) (ty : Ty) (d : TypeDecl) : Type 0 where
   pub ids : List (List ℕ)

@@ -1,17 +1,15 @@
 -- A declaration makes one type at most, and a type is made by one declaration at most.
-use Rattle.std.proofs.Common.{◌≡◌, ◌⊎◌, inl, inr, ℕ, zero, suc, ◌+◌, ◌<◌, ◌≤◌, List, [], ◌∷◌, map, Option, Some, None, unwrap_or, slice_get, refl, ap, sym, subst, ◌∙◌, arith}
+use Rattle.std.proofs.Common.{◌≡◌, ◌⊎◌, inl, inr, ℕ, zero, suc, ◌<◌, ◌≤◌, List, [], ◌∷◌, Option, Some, None, unwrap_or, refl, ap, sym, subst, ◌∙◌, arith}
 use Rattle.std.specs.List.{AllZip}
 use Rattle.std.proofs.lemmas.Bool.{cases_order}
-use Rattle.type_trees.specs.Ty.{Ty, Tys, number, nonzero, range_check, gas_builtin, box, array, snapshot, struct, enum, dict, dict_entry, squashed_dict, uninitialized, no_types, types, depth}
+use Rattle.type_trees.specs.Ty.{Ty, number, nonzero, range_check, gas_builtin, box, array, snapshot, struct, enum, dict, dict_entry, squashed_dict, uninitialized, depth}
 use Rattle.type_trees.specs.declared.num.Num.{Num}
 use Rattle.type_trees.specs.declared.num.Num.TheVariants as nums
 use Rattle.sierra_types.specs.declared.program.TypeDecl.{TypeDecl}
-use Rattle.sierra_types.specs.declared.program.Arg.{Arg}
-use Rattle.sierra_types.specs.declared.program.Arg.TheVariants.{OfType, User, Callee, Number}
 use Rattle.type_table.specs.declared.generic.Generic.{Generic}
 use Rattle.type_table.specs.declared.generic.Generic.TheVariants as generics
 use Rattle.type_table.specs.Naming.{Names}
-use Rattle.type_table.specs.Trees.{kind_of, generic_of, user_of, listed, parts}
+use Rattle.type_table.specs.Trees.{kind_of, generic_of, user_of, parts}
 use Rattle.type_table.specs.Refusals.{named_types}
 use Rattle.type_table.specs.IsType.{HasArgs, IsType}
 use Rattle.type_table.specs.Resolving.{type_args, written, user_in}
@@ -20,7 +18,7 @@ use Rattle.type_table.specs.View.{joined, only}
 use Rattle.type_table.proofs.Plain.{some_is}
 use Rattle.type_table.proofs.NamedLaws.{same_generic}
 use Rattle.type_table.proofs.Places.{names_once, names_id}
-use Rattle.type_table.proofs.Trees.{Arguments, arguments_of, has_args, joined-listed, AllBelow, parts_below, depth_positive}
+use Rattle.type_table.proofs.Trees.{arguments_of, joined-listed, AllBelow, parts_below, depth_positive}
 
 -- what arguments are written of
 pub ids_in : (ids : List (List ℕ)) → named_types (type_args ids) ≡ ids

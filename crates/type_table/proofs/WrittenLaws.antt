@@ -15,7 +15,6 @@ use Rattle.type_table.specs.declared.kind.TypeKind.TheVariants as kinds
 use Rattle.type_table.specs.declared.written.Written.{Written}
 use Rattle.type_table.specs.Lookups.{same_num}
 use Rattle.type_table.specs.Written.{WrittenView, written_view, same_kind, same_user, same_written, has_written}
-use Rattle.type_table.proofs.Plain.{none-some, some_is}
 use Rattle.type_table.proofs.LookupLaws.{same_num-derived}
 
 same_kind-derived : (a b : TypeKind) → kind_impl.eq-value.it a b ≡ same_kind a b

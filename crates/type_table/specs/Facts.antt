@@ -1,5 +1,5 @@
 -- What the code keeps of a type while it makes the table: what is told of it, its depth, and what arrays and what main ask.
-use Rattle.std.specs.Prelude.{ℕ, ◌≡◌, ◌+◌, List, map, min, max, fold, Bool, true, false, not, ◌&&◌}
+use Rattle.std.specs.Prelude.{ℕ, ◌+◌, List, min, max, fold, Bool, true, false, not, ◌&&◌}
 use Rattle.std.specs.List.{list_all, list_any}
 use Rattle.type_trees.specs.Ty.{Ty, size, storable, droppable, duplicable, holds_dict, depth, holds_array, is_plain}
 use Rattle.type_table.specs.declared.facts.Facts.{Facts}

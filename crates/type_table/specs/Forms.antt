@@ -1,5 +1,5 @@
 -- The form of a declaration's arguments, and what kind of type it is, as the code tells them.
-use Rattle.std.specs.Prelude.{ℕ, suc, ◌≡◌, List, [], ◌∷◌, Bool, true, false, length, Option, Some, None, slice_index_or, ◌&&◌}
+use Rattle.std.specs.Prelude.{ℕ, suc, ◌≡◌, List, [], ◌∷◌, Bool, true, false, length, Option, Some, None, slice_index_or}
 use Rattle.std.specs.List.{list_all}
 use Rattle.type_trees.specs.declared.num.Num.{Num}
 use Rattle.sierra_types.specs.declared.program.Arg.{Arg}

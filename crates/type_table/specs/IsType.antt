@@ -1,5 +1,5 @@
 -- What a declared type is. That an id is a type says that neither its declaration nor one that it reaches is refused.
-use Rattle.std.specs.Prelude.{ℕ, ◌≡◌, ◌≢◌, ◌<◌, ◌≤◌, ◌^◌, ◌⊎◌, List, [], ◌∷◌, codes, length, Option, Some, None, slice_get}
+use Rattle.std.specs.Prelude.{ℕ, ◌≡◌, ◌<◌, ◌≤◌, ◌^◌, ◌⊎◌, List, [], ◌∷◌, codes, length, Option, Some, None, slice_get}
 use Rattle.type_trees.specs.Ty.{Ty, Tys, number, nonzero, range_check, gas_builtin, box, array, snapshot, struct, enum, dict, dict_entry, squashed_dict, uninitialized, no_types, types, size, depth, number_name}
 use Rattle.type_trees.specs.declared.num.Num.{Num}
 use Rattle.sierra_types.specs.declared.program.TypeDecl.{TypeDecl}

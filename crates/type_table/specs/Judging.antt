@@ -1,5 +1,5 @@
 -- What the table asks of a declaration whose type arguments are known, as the code tells it.
-use Rattle.std.specs.Prelude.{ℕ, ◌≡◌, List, [], ◌∷◌, Bool, true, false, not, ◌&&◌, ◌==◌, nat_lt, Option, Some, None}
+use Rattle.std.specs.Prelude.{List, [], ◌∷◌, Bool, true, false, not, ◌&&◌, ◌==◌, nat_lt, Option, Some, None}
 use Rattle.sierra_types.specs.declared.program.Info.{Info}
 use Rattle.type_table.specs.declared.facts.Facts.{Facts}
 use Rattle.type_table.specs.declared.kind.TypeKind.{TypeKind}

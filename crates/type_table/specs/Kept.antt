@@ -1,5 +1,5 @@
 -- What a table keeps of its fields.
-use Rattle.std.specs.Prelude.{ℕ, ◌≡◌, ◌↔◌, List, map, Option, Some, slice_get}
+use Rattle.std.specs.Prelude.{ℕ, ◌≡◌, ◌↔◌, List, map, Some, slice_get}
 use Rattle.type_trees.specs.Ty.{is_plain}
 use Rattle.type_table.specs.declared.type_id.TypeId.{TypeId}
 use Rattle.type_table.specs.declared.kind.Shape.{Shape}
@@ -9,6 +9,7 @@ use Rattle.type_table.specs.Generics.{generic_name}
 use Rattle.type_table.specs.Trees.{kind_of, generic_of, info_of}
 use Rattle.type_table.specs.View.{TypesView, RowView, FunctionView, tree_of, HasTree, IsTable}
 use Rattle.type_table.specs.Shapes.{shaped}
+pub use Rattle.type_table.specs.Lookups.{AreNumbered}
 use Rattle.type_table.specs.Lookups.{names_in, found_shape}
 
 abbrev pub row_view : Row → RowView
@@ -26,10 +27,6 @@ pub record IsFull (view : TypesView) (i : ℕ) (row : Row) : Type 0 where
   pub generic : row.generic ≡ generic_name (generic_of (kind_of (tree_of view i)))
   pub info : row.info ≡ info_of (tree_of view i)
   pub plain : row.plain ≡ is_plain (tree_of view i)
-
--- each name stands for its place
-abbrev pub AreNumbered : List (List ℕ × ℕ) → Type 0
-AreNumbered es = (i : ℕ) (e : List ℕ × ℕ) → slice_get es i ≡ Some e → e.1 ≡ i
 
 pub record IsKept (ids : List (List ℕ × ℕ)) (rows : List Row) (shapes : List (Shape × TypeId)) (function_ids : List (List ℕ × ℕ)) (functions : List Signature) : Type 0 where
   pub table : IsTable (table_view ids rows function_ids functions)

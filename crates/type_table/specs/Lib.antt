@@ -3,6 +3,7 @@ pub mod Generics
 pub mod Trees
 pub mod IsType
 pub mod Refusals
+pub mod Parts
 pub mod View
 pub mod Table
 pub mod Shapes
@@ -22,3 +23,7 @@ pub mod Kinds
 pub mod Written
 pub mod Reached
 pub mod Repeats
+pub mod Resolved
+pub mod Judged
+pub mod Shaping
+pub mod Made

@@ -1,5 +1,5 @@
 -- Names and shapes, each with what it stands for.
-use Rattle.std.specs.Prelude.{ℕ, List, [], ◌∷◌, ◌++◌, Bool, true, false, ◌==◌, ◌&&◌, Option, Some, None, if◌then◌else◌, map, bytes_eq}
+use Rattle.std.specs.Prelude.{ℕ, ◌≡◌, slice_get, List, [], ◌∷◌, Bool, true, false, ◌==◌, Option, Some, None, if◌then◌else◌, map, bytes_eq}
 use Rattle.type_trees.specs.declared.num.Num.{Num}
 use Rattle.type_trees.specs.declared.num.Num.TheVariants as nums
 use Rattle.type_table.specs.declared.type_id.TypeId.{TypeId}
@@ -14,6 +14,10 @@ found (e ∷ es) name = if bytes_eq name e.0 then Some e.1 else found es name
 -- the names in order
 abbrev pub names_in : List (List ℕ × ℕ) → List (List ℕ)
 names_in es = map (λ e. e.0) es
+
+-- each name stands for its place
+abbrev pub AreNumbered : List (List ℕ × ℕ) → Type 0
+AreNumbered es = (i : ℕ) (e : List ℕ × ℕ) → slice_get es i ≡ Some e → e.1 ≡ i
 
 abbrev pub same_num : Num → Num → Bool
 same_num nums.Felt64 nums.Felt64 = true

@@ -1,5 +1,5 @@
 -- What is found of a declaration, as the code finds it.
-use Rattle.std.specs.Prelude.{ℕ, ◌+◌, List, [], ◌∷◌, Bool, true, false, not, ◌&&◌, nat_lt, nat_le, length, map, option_map, if◌then◌else◌, Option, Some, None, slice_index_or}
+use Rattle.std.specs.Prelude.{ℕ, ◌+◌, List, [], ◌∷◌, Bool, true, false, not, ◌&&◌, nat_lt, nat_le, length, option_map, if◌then◌else◌, Option, Some, None, slice_index_or}
 use Rattle.sierra_types.specs.declared.program.TypeDecl.{TypeDecl}
 use Rattle.type_table.specs.declared.facts.Facts.{Facts}
 use Rattle.type_table.specs.declared.kind.TypeKind.{TypeKind}

@@ -1,5 +1,5 @@
 -- Refusals: each rule once, and which refusal of a program is the first.
-use Rattle.std.specs.Prelude.{ℕ, ◌≡◌, ◌≢◌, ◌<◌, ◌≤◌, ◌⊎◌, List, [], ◌∷◌, ◌++◌, map, length, Option, Some, None, slice_get, position, filter_map, Contains, false, bytes_eq}
+use Rattle.std.specs.Prelude.{ℕ, ◌≡◌, ◌<◌, ◌⊎◌, List, ◌++◌, map, Option, Some, None, slice_get, filter_map, Contains, false}
 use Rattle.graph_cycles.specs.Graph.{OnCycle}
 use Rattle.type_trees.specs.Ty.{Ty, range_check, gas_builtin, storable}
 use Rattle.sierra_types.specs.declared.program.Program.{Program}

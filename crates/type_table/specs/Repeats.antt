@@ -1,5 +1,5 @@
 -- Which declarations are repeated, as the code tells it.
-use Rattle.std.specs.Prelude.{ℕ, ◌≡◌, ◌↔◌, ◌⊎◌, ◌<◌, ◌++◌, ◌∷◌, [], List, Bool, true, false, length, Option, Some, None, Result, Ok, Err, slice_get, slice_index_or, if◌then◌else◌}
+use Rattle.std.specs.Prelude.{ℕ, ◌≡◌, ◌↔◌, ◌⊎◌, ◌<◌, ◌++◌, ◌∷◌, [], List, Bool, true, false, length, Some, Result, Ok, Err, slice_get, slice_index_or, if◌then◌else◌}
 use Rattle.sierra_types.specs.declared.program.TypeDecl.{TypeDecl}
 use Rattle.sierra_types.specs.declared.program.Arg.{Arg}
 use Rattle.type_table.specs.declared.kind.TypeKind.{TypeKind}

@@ -1,6 +1,6 @@
 -- Types that are told by their shape: those that a signature makes of a number or of another type.
-use Rattle.std.specs.Prelude.{ℕ, List, codes}
-use Rattle.type_trees.specs.Ty.{Ty, Tys, number, nonzero, range_check, gas_builtin, box, array, snapshot, struct, enum, dict, dict_entry, squashed_dict, uninitialized, no_types, types}
+use Rattle.std.specs.Prelude.{codes}
+use Rattle.type_trees.specs.Ty.{Ty, number, nonzero, range_check, gas_builtin, box, array, snapshot, struct, dict, dict_entry, squashed_dict, uninitialized, no_types, types}
 use Rattle.type_trees.specs.declared.num.Num.{Num}
 use Rattle.type_trees.specs.declared.num.Num.TheVariants as nums
 use Rattle.type_table.specs.declared.kind.Shape.{Shape}

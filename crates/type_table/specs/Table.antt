@@ -1,5 +1,5 @@
 -- The types and functions of a program, as a table.
-use Rattle.std.specs.Prelude.{ℕ, ◌≡◌, ◌<◌, List, map, length, Option, Some, slice_get}
+use Rattle.std.specs.Prelude.{ℕ, ◌≡◌, List, map, Some, slice_get}
 use Rattle.sierra_types.specs.declared.program.Program.{Program}
 use Rattle.sierra_types.specs.declared.program.Function.{Function}
 use Rattle.sierra_types.specs.declared.program.LibfuncDecl.{LibfuncDecl}

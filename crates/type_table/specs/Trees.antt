@@ -1,7 +1,6 @@
 -- The parts of a type's tree: what kind of type it is, the name behind `ut@`, its type arguments, and what is asked of
 -- them; and the facts that the table keeps of it.
-use Rattle.std.specs.Prelude.{ℕ, ◌≡◌, ◌≤◌, List, [], ◌∷◌, Bool, true, false, ◌==◌, Option, Some, None}
-use Rattle.type_trees.specs.Ty
+use Rattle.std.specs.Prelude.{ℕ, ◌≡◌, ◌≤◌, List, [], ◌∷◌, true, false, ◌==◌, Option, Some, None}
 use Rattle.type_trees.specs.Ty.{Ty, Tys, number, nonzero, range_check, gas_builtin, box, array, snapshot, struct, enum, dict, dict_entry, squashed_dict, uninitialized, no_types, types, size, storable, droppable, duplicable, holds_dict}
 use Rattle.type_table.specs.declared.type_id.TypeInfo.{TypeInfo}
 use Rattle.type_table.specs.declared.generic.Generic.{Generic}

@@ -1,15 +1,15 @@
 -- What a contract sees of a table of types: ids and rows, in declared order. A row says what kind of type it is, and of
 -- which types it is made; so each type has a tree.
-use Rattle.std.specs.Prelude.{ℕ, zero, suc, ◌≡◌, ◌<◌, ◌≤◌, List, [], ◌∷◌, map, length, Option, Some, None, slice_get}
+use Rattle.std.specs.Prelude.{ℕ, zero, suc, ◌≡◌, ◌<◌, ◌≤◌, List, [], ◌∷◌, map, length, Option, Some, slice_get}
 use Rattle.std.specs.Option.{option_map_or, unwrap_or}
-use Rattle.std.specs.List.{All, Contains}
+use Rattle.std.specs.List.{All}
 use Rattle.type_trees.specs.Ty.{Ty, Tys, number, nonzero, range_check, gas_builtin, box, array, snapshot, struct, enum, dict, dict_entry, squashed_dict, uninitialized, no_types, types, size, depth}
 use Rattle.type_table.specs.declared.type_id.TypeId.{TypeId}
 use Rattle.type_table.specs.declared.kind.TypeKind.{TypeKind}
 use Rattle.type_table.specs.declared.kind.TypeKind.TheVariants as kinds
-use Rattle.type_table.specs.Naming.{IsFirst}
 use Rattle.type_table.specs.Trees.{kind_of, user_of, parts, IsAllowed}
 use Rattle.type_table.specs.IsType.{most_cells, most_arguments, most_depth}
+use Rattle.type_table.specs.Parts.{HasOrdinaryParts}
 
 pub record RowView : Type 0 where
   pub kind : TypeKind
@@ -91,6 +91,7 @@ pub record IsRow (view : TypesView) (i : ℕ) (row : RowView) : Type 0 where
   pub members : trees_of view row.members ≡ parts (tree_of view i)
   pub below : All (λ t. t.0 < length view.rows) row.members
   pub few_members : length row.members ≤ most_arguments
+  pub ordinary : HasOrdinaryParts (tree_of view i)
   pub allowed : IsAllowed (tree_of view i)
   pub few_cells : size (tree_of view i) ≤ most_cells
   pub shallow : depth (tree_of view i) ≤ most_depth

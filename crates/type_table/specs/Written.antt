@@ -1,7 +1,6 @@
 -- Declarations as they are written, apart from their ids.
-use Rattle.std.specs.Prelude.{ℕ, ◌≡◌, List, [], ◌∷◌, Bool, true, false, ◌&&◌, ◌||◌, ◌==◌, Option, Some, None, option_map, bytes_eq}
+use Rattle.std.specs.Prelude.{ℕ, List, Bool, true, false, ◌&&◌, Option, Some, None, option_map, bytes_eq}
 use Rattle.std.specs.List.{list_any}
-use Rattle.type_trees.specs.declared.num.Num.{Num}
 use Rattle.type_table.specs.declared.kind.TypeKind.{TypeKind}
 use Rattle.type_table.specs.declared.kind.TypeKind.TheVariants as kinds
 use Rattle.type_table.specs.declared.written.Written.{Written}

@@ -12,7 +12,7 @@ use crate::positions::Positions;
 use crate::row::{Row, Signature};
 use crate::signatures::signature_of;
 use sierra_types::{LibfuncDecl, Name, Program};
-use std::alloc::Global;
+use std::alloc::{AllocError, Global};
 
 /// The functions of a program, in declared order.
 #[derive(Debug, Drop)]
@@ -56,9 +56,7 @@ pub(crate) fn functions_of(
     for (i, function) in functions.iter().enumerate() {
         let signature = signature_of(alloc, positions, rows, &ids, function)?;
         ids.add(alloc, function.id.bytes(), i)?;
-        if signatures.push(signature).is_err() {
-            return Err(TypeFault::Memory);
-        }
+        signatures.push(signature).map_err(AllocError::from)?;
     }
     Ok(Functions { ids, signatures })
 }

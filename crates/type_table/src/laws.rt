@@ -9,7 +9,8 @@ ghost use Rattle.type_table.specs.declared.fault.TypeFault.TheVariants.{Memory};
 ghost use Rattle.type_table.specs.View.{TypesView};
 ghost use Rattle.type_table.specs.Table.{HasTypes};
 ghost use Rattle.type_table.specs.Generics.{Fits};
-ghost use Rattle.type_table.specs.IsType.{HasArgs};
+ghost use Rattle.type_table.specs.IsType.{HasArgs, IsType};
+ghost use Rattle.type_table.specs.Parts.{HasOrdinaryParts};
 ghost use Rattle.type_table.specs.Refusals.{FirstFault};
 ghost use Rattle.type_table.specs.Reached.{ReachesRefused};
 
@@ -38,9 +39,16 @@ pub fn never_memory()
     ensures { (p : Program) → ¬ FirstFault p Memory }
 {}
 
-/// A declaration makes a type, as far as its own arguments go, if and only if these have the right form and it reaches neither itself nor a
-/// refused declaration: so nothing is asked of a type's size, depth and abilities where it reaches a refused one.
+/// A declaration makes a type, as far as its own arguments go, only if it reaches neither itself nor a refused declaration; and where its
+/// arguments have the right form too, it can't be that it makes none. So nothing is asked of a type's size, depth and abilities where it
+/// reaches a refused one.
 pub fn makes_type()
     ensures made { (ds : List TypeDecl) (ty : Ty) (i : ℕ) (d : TypeDecl) → slice_get ds i ≡ Some d → HasArgs ds ty d → ¬ ReachesRefused ds i }
     ensures reached { (ds : List TypeDecl) (i : ℕ) (d : TypeDecl) → slice_get ds i ≡ Some d → Fits ds d.generic d.args → ¬ ReachesRefused ds i → ((ty : Ty) → ¬ HasArgs ds ty d) → ⊥ }
+{}
+
+/// In a box, an array or a snapshot, and as members and variants, there are neither builtins nor uninitialized types; in an uninitialized type
+/// there is no other; an enum has a variant or more.
+pub fn ordinary_parts()
+    ensures { (ds : List TypeDecl) (ty : Ty) (id : List ℕ) → IsType ds ty id → HasOrdinaryParts ty }
 {}

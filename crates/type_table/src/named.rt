@@ -78,3 +78,11 @@ pub(crate) fn all_ids<D: HasId>(alloc: Global, declarations: &[D]) -> Result<Ids
         repeated,
     })
 }
+
+/// Where each id of a libfunc is declared first, in time and memory linear in the declarations.
+pub fn libfunc_positions(alloc: Global, libfuncs: &[LibfuncDecl]) -> Result<Positions, AllocError>
+    ensures { IfOk result (λ positions. (id : List ℕ) → found positions id ≡ place_of (map (λ d. d.id) libfuncs.now) id) }
+{
+    let ids = all_ids(alloc, libfuncs)?;
+    Ok(ids.positions)
+}

@@ -9,7 +9,7 @@ use std::marker::Model;
 
 /// Names, each with the position that it stands for. A look-up takes constant time and no memory.
 #[derive(Debug, Drop)]
-pub(crate) struct Positions {
+pub struct Positions {
     map: IndexMap<Vec<u8>, usize>,
 }
 
@@ -23,7 +23,7 @@ impl Model for Positions {
 
 impl Positions {
     /// No names. It takes no memory; `add` takes its from `alloc`.
-    pub fn new(alloc: Global) -> Positions
+    pub(crate) fn new(alloc: Global) -> Positions
         ensures { result ≡ [] }
     {
         Positions {
@@ -39,7 +39,12 @@ impl Positions {
     }
 
     /// Adds a name that isn't there yet.
-    pub fn add(&mut self, alloc: Global, name: &[u8], position: usize) -> Result<(), AllocError>
+    pub(crate) fn add(
+        &mut self,
+        alloc: Global,
+        name: &[u8],
+        position: usize,
+    ) -> Result<(), AllocError>
         requires { found self.old name.now ≡ None }
         ensures ok { OnOk result (self.new ≡ self.old ++ (name.now, position) ∷ []) }
         ensures err { OnErr result (self.new ≡ self.old) }

@@ -65,9 +65,7 @@ fn types_in<T: HasType>(
         let Some(position) = positions.find(id) else {
             return Err(TypeFault::UnknownType(Name::new(alloc, id)?));
         };
-        if types.push(TypeId(position)).is_err() {
-            return Err(TypeFault::Memory);
-        }
+        types.push(TypeId(position)).map_err(AllocError::from)?;
     }
     Ok(types)
 }

@@ -67,7 +67,7 @@ pub(crate) fn wrapped(kind: TypeKind, part: Facts) -> Facts
         TypeKind::Array => Facts {
             size: 2,
             storable: true,
-            dup: false,
+            dup: false, // an array has one owner, as it grows
             holds_dict: false,
             depth,
             holds_array: true,

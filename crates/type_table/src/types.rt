@@ -8,6 +8,7 @@ ghost use Rattle.type_table.specs.Trees.{kind_of, generic_of, user_of, parts, in
 ghost use Rattle.type_table.specs.IsType.{most_arguments};
 ghost use Rattle.type_table.specs.View.{FunctionView, tree_of, trees_of, HasTree, IsTable};
 ghost use Rattle.type_table.specs.Shapes.{shaped};
+ghost use Rattle.type_table.specs.Kept.{IsKept, table_view};
 
 use crate::kind::{Shape, TypeKind};
 use crate::positions::Positions;
@@ -43,6 +44,26 @@ impl Model for Types {
 }
 
 impl Types {
+    /// The table with these fields. It takes no memory.
+    pub(crate) fn new(
+        ids: Positions,
+        rows: Vec<Row>,
+        shapes: ShapeIndex,
+        function_ids: Positions,
+        functions: Vec<Signature>,
+    ) -> Types
+        requires { IsKept ids rows.items shapes function_ids functions.items }
+        ensures { result ≡ table_view ids rows.items function_ids functions.items }
+    {
+        Types {
+            ids,
+            rows,
+            shapes,
+            function_ids,
+            functions,
+        }
+    }
+
     /// The number of types.
     pub fn len(&self) -> usize
         ensures len { result ≡ length self.now.rows }

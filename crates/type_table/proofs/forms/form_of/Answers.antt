@@ -1,6 +1,6 @@
-use Rattle.std.proofs.Common.{◌≡◌, ◌≢◌, ◌-◌, ◌∙◌, ap, sym, subst, length, Option, Some, None}
+use Rattle.std.proofs.Common.{◌∙◌, ap, sym}
 use Rattle.std.specs.Option.{option_copied}
-use Rattle.type_table.proofs.Plain.{none-some, some_is}
+use Rattle.type_table.proofs.Plain.{none-some}
 use Rattle.type_table.proofs.FormLaws.{all_types, types_behind, not_written}
 use Rattle.type_table.proofs.forms.form_of.Goals as goal
 

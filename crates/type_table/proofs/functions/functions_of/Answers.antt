@@ -1,8 +1,8 @@
-use Rattle.std.proofs.Common.{◌≡◌, ◌≢◌, ◌+◌, ◌∷◌, ◌++◌, [], ◌∙◌, ap, sym, refl, subst, length, slice_get, Some, arith}
+use Rattle.std.proofs.Common.{◌≡◌, ◌≢◌, ◌+◌, ◌∷◌, ◌++◌, [], ◌∙◌, ap, sym, refl, subst, length, slice_get, Some, is_ok, true, cond, arith}
 use Rattle.std.proofs.lemmas.Option.{slice_get_read}
 use Rattle.type_table.specs.declared.fault.TypeFault.TheVariants as faults
 use Rattle.type_table.specs.Functions.{FirstBehindTypes, LibfuncsDiffer, HasRepeatedLibfunc}
-use Rattle.type_table.proofs.SignatureLaws.{fault_passed, pushed}
+use Rattle.type_table.proofs.SignatureLaws.{fault_passed}
 use Rattle.type_table.proofs.FunctionLaws.{SoFar, one_function, function_fails, libfunc_fails, all_functions}
 use Rattle.type_table.proofs.functions.functions_of.Goals as goal
 
@@ -35,9 +35,9 @@ loop-i-preserved c =
     ap (λ l. slice_get l i) (sym c.items-functions.ensures)
     ∙ slice_get_read functions (length functions) i f refl c.loop-i-test.true c.index-functions-i.is in
     let ids_is : c.add.new.self ≡ c.loop-i.ids ++ (f.id, i) ∷ [] = c.in_ok-add.ensures.ok ∙ ap (λ b. c.loop-i.ids ++ (b, i) ∷ []) c.bytes.ensures in
+    let pushed : is_ok c.push.result ≡ true = sym c.map_err.ensures.variant ∙ ap is_ok c.in_ok-map_err.was in
     let signatures_are : c.push.new.self.items ≡ c.loop-i.signatures.items ++ c.in_ok-signature.signature ∷ [] =
-    pushed c.push.result c.push.new.self.items (c.loop-i.signatures.items ++ c.in_ok-signature.signature ∷ []) c.loop-i.signatures.items
-    (sym c.is_err.ensures.value ∙ c.if-is_err.false) c.push.ensures.items in
+    c.push.ensures.items ∙ ap (λ b. cond b (c.loop-i.signatures.items ++ c.in_ok-signature.signature ∷ []) c.loop-i.signatures.items) pushed in
     subst (λ x. SoFar p (i + 1) x c.push.new.self.items) (sym ids_is)
     (subst (λ y. SoFar p (i + 1) (c.loop-i.ids ++ (f.id, i) ∷ []) y) (sym signatures_are)
     (one_function p c.args.positions.now c.args.rows.now c.requires i c.loop-i.ids c.loop-i.signatures.items c.loop-i.invariant f here c.in_ok-signature.signature c.in_ok-signature.ensures.found))

@@ -1,4 +1,4 @@
-use Rattle.std.proofs.Common.{◌≡◌, ℕ, length, Result, Some, slice_get, slice_index_or, [], ◌<◌}
+use Rattle.std.proofs.Common.{◌≡◌, ℕ, length, Result, Some, slice_get, slice_index_or, []}
 use Rattle.sierra_types.specs.declared.program.TypeDecl.{TypeDecl}
 use Rattle.type_table.specs.declared.kind.TypeKind.{TypeKind}
 use Rattle.type_table.specs.declared.rules.TypeRule.{TypeRule}

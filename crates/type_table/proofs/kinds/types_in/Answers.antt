@@ -1,4 +1,4 @@
-use Rattle.std.proofs.Common.{◌≡◌, ◌≤◌, ◌∙◌, ◌+◌, ap, sym, refl, length, take, if◌then◌else◌, arith}
+use Rattle.std.proofs.Common.{◌∙◌, ◌+◌, ap, sym, refl, length, take, if◌then◌else◌, arith}
 use Rattle.std.proofs.lemmas.Option.{slice_get_read}
 use Rattle.type_table.specs.Refusals.{named_type, named_types}
 use Rattle.type_table.proofs.Filters.{count_given}

@@ -1,4 +1,4 @@
-use Rattle.std.proofs.Common.{◌≡◌, ◌+◌, ◌≤◌, ◌∙◌, ◌||◌, ◌++◌, ◌∷◌, [], false, ap, sym, refl, length, get_or}
+use Rattle.std.proofs.Common.{◌≡◌, ◌+◌, ◌∙◌, ◌||◌, ◌++◌, ◌∷◌, [], false, ap, sym, refl, length, get_or}
 use Rattle.std.proofs.lemmas.Option.{slice_get_read}
 use Rattle.type_table.specs.Repeats.{again_of, after}
 use Rattle.type_table.proofs.RepeatSteps.{AreTold, told_more, told_as, told_all}

@@ -1,4 +1,4 @@
-use Rattle.std.proofs.Common.{◌≡◌, ◌∙◌, ap, sym, refl, length}
+use Rattle.std.proofs.Common.{◌∙◌, ap, sym, refl, length}
 use Rattle.std.specs.Option.{option_copied}
 use Rattle.std.proofs.lemmas.Option.{slice_get_read}
 use Rattle.type_table.specs.Resolving.{unknown_of}

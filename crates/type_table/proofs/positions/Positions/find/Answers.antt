@@ -1,4 +1,4 @@
-use Rattle.std.proofs.Common.{◌≡◌, ap, sym, ◌∙◌}
+use Rattle.std.proofs.Common.{ap, ◌∙◌}
 use Rattle.type_table.specs.Lookups.{found}
 use Rattle.type_table.proofs.LookupLaws.{found-lookup}
 use Rattle.type_table.proofs.positions.Positions.find.Goals as goal

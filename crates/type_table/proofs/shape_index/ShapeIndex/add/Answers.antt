@@ -1,4 +1,4 @@
-use Rattle.std.proofs.Common.{◌≡◌, ◌++◌, ◌∷◌, [], None, ap, sym, ◌∙◌}
+use Rattle.std.proofs.Common.{◌++◌, ◌∷◌, [], ap, ◌∙◌}
 use Rattle.indexmap.proofs.CallerLemmas.{insert_entry-new}
 use Rattle.type_table.specs.contracts.kind.ShapePartialEq.TheImpl as shape_impl
 use Rattle.type_table.specs.Lookups.{found_shape}

@@ -1,4 +1,4 @@
-use Rattle.std.proofs.Common.{◌≡◌, ap, sym, ◌∙◌}
+use Rattle.std.proofs.Common.{ap, ◌∙◌}
 use Rattle.type_table.specs.Lookups.{found_shape}
 use Rattle.type_table.proofs.LookupLaws.{found_shape-lookup}
 use Rattle.type_table.proofs.shape_index.ShapeIndex.find.Goals as goal

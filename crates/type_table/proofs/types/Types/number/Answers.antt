@@ -1,4 +1,4 @@
-use Rattle.std.proofs.Common.{◌≡◌, ◌↔◌, ◌∙◌, ap, sym, subst, Option, Some, None, slice_get}
+use Rattle.std.proofs.Common.{◌∙◌, ap, sym, Some}
 use Rattle.type_table.specs.Lookups.{found}
 use Rattle.type_table.proofs.Plain.{none-some, some_is}
 use Rattle.type_table.proofs.TableLaws.{id_found}

@@ -1,4 +1,4 @@
-use Rattle.std.proofs.Common.{◌≡◌, ◌++◌, ◌∷◌, [], List, Bool, not, IfOk, OnOk, map, if◌then◌else◌, ap, sym, subst, ◌∙◌}
+use Rattle.std.proofs.Common.{◌++◌, ◌∷◌, [], not, map, if◌then◌else◌, ap, ◌∙◌}
 use Rattle.type_table.specs.Written.{has_written, written_view}
 use Rattle.type_table.proofs.Plain.{on_ok}
 use Rattle.type_table.proofs.WrittenLaws.{has_keys, keys_after}
