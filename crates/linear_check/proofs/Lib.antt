@@ -1,0 +1,15 @@
+pub mod Bounds
+pub mod Counts
+pub mod Deciding
+pub mod Ending
+pub mod Faults
+pub mod Following
+pub mod Giving
+pub mod Joining
+pub mod Lawfulness
+pub mod OneWayIn
+pub mod OnlyWays
+pub mod Parameters
+pub mod Parts
+pub mod Passing
+pub mod Ready
