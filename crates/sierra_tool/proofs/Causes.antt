@@ -14,8 +14,8 @@ use Rattle.sierra_tool.specs.declared.command.Source.{Source}
 use Rattle.sierra_tool.specs.declared.command.Source.TheVariants as sources
 use Rattle.first_form.specs.declared.program.Program.{Program}
 use Rattle.first_form.specs.declared.input.Input.{Input}
-use Rattle.sierra_tool.specs.Causes.{Reading, absent, unread, found, SourceReadings, Holds, IsRunFile, IsTree, IsOfForm, HasProgram, HasInput, HasRun, CanRun, ComesTo, IsCasm, Cause}
-use Rattle.sierra_tool.specs.Command.{limit, IsRead}
+use Rattle.sierra_tool.specs.Causes.{Reading, absent, unread, found, SourceReadings, Holds, IsRunFile, IsTree, IsOfForm, IsCheckedTree, IsRefusedTree, HasProgram, HasInput, HasRun, CanRun, ComesTo, IsCasm, Cause}
+use Rattle.sierra_tool.specs.Command.{limit, IsRead, IsCompiled}
 use Rattle.first_form.specs.Forms.{IsProgram, IsInput}
 use Rattle.felt64.specs.Field.{modulus}
 use Rattle.std.specs.FinMap.{get}
@@ -34,7 +34,9 @@ use Rattle.run_file.specs.Spelling.{spelling}
 use Rattle.sierra_text.specs.Layout.{layout}
 use Rattle.sierra_text.proofs.Refusing.{same_program as one_tree, one_refusal as one_text_fault, program_or_refusal, never_both as text_never_both}
 use Rattle.sierra_types.specs.declared.program.Program.{Program as Tree}
-use Rattle.sierra_tool.specs.Stages.{IsUnfit, IsRefused, NoTree, NoProgram, NoInput, NoRun, NoCasm}
+use Rattle.program_checks.specs.Checks as checks
+use Rattle.program_checks.proofs.Checks.{passes_or_refused, one_refusal as one_program_refusal, never_both as passes_never_both}
+use Rattle.sierra_tool.specs.Stages.{IsUnfit, IsRefused, NoTree, FailsChecks, NoProgram, NoInput, NoRun, NoCasm}
 use Rattle.first_form.proofs.FormLaws.{one_program, one_input}
 use Rattle.first_form.proofs.VerdictLaws.{one_verdict, some_verdict}
 use Rattle.casm_text.proofs.Refusing.{one_code, one_refusal as one_asm_fault, code_or_refusal, never_both as never_refused}
@@ -197,20 +199,38 @@ never_tree text a tree p q = text_never_both text tree p.0 p.1 q.0 q.1
 same_tree : (text : List ℕ) (a b : Tree) → IsTree text a → IsTree text b → a ≡ b
 same_tree text a b p q = one_tree text a b p.0 q.0
 
+-- a program that is refused for a reason doesn't pass
+never_checked : (text : List ℕ) (a : Answer) (tree : Tree) → FailsChecks text a → IsCheckedTree text tree → ⊥
+never_checked text a tree p q =
+    let refused = p.1 in
+    passes_never_both tree p.0 (subst (λ (t : Tree). checks.Refused t p.0) (same_tree text refused.0 tree refused.1 q.0) refused.2) q.1
+
+fails_checks_once : (text : List ℕ) (a b : Answer) → FailsChecks text a → FailsChecks text b → a ≡ b
+fails_checks_once text a b p q =
+    let one = p.1 in
+    let other = q.1 in
+    p.2 ∙ ap answers.ProgramRefused (one_program_refusal other.0 p.0 q.0 (subst (λ (t : Tree). checks.Refused t p.0) (same_tree text one.0 other.0 one.1 other.1) one.2) other.2) ∙ sym q.2
+
 no_program_once : (text : List ℕ) (a b : Answer) → NoProgram text a → NoProgram text b → a ≡ b
 no_program_once text a b (inl p) (inl q) = no_tree_once text a b p q
-no_program_once text a b (inl p) (inr q) = absurd (never_tree text a q.0.0 p q.0.1)
-no_program_once text a b (inr p) (inl q) = absurd (never_tree text b p.0.0 q p.0.1)
-no_program_once text a b (inr p) (inr q) = p.1 ∙ sym q.1
+no_program_once text a b (inl p) (inr (inl q)) = absurd (never_tree text a q.1.0 p q.1.1)
+no_program_once text a b (inl p) (inr (inr q)) = absurd (never_tree text a q.0.0 p q.0.1.0)
+no_program_once text a b (inr (inl p)) (inl q) = absurd (never_tree text b p.1.0 q p.1.1)
+no_program_once text a b (inr (inl p)) (inr (inl q)) = fails_checks_once text a b p q
+no_program_once text a b (inr (inl p)) (inr (inr q)) = absurd (never_checked text a q.0.0 p q.0.1)
+no_program_once text a b (inr (inr p)) (inl q) = absurd (never_tree text b p.0.0 q p.0.1.0)
+no_program_once text a b (inr (inr p)) (inr (inl q)) = absurd (never_checked text b p.0.0 q p.0.1)
+no_program_once text a b (inr (inr p)) (inr (inr q)) = p.1 ∙ sym q.1
 
 never_program : (text : List ℕ) (a : Answer) (program : Program) → NoProgram text a → IsOfForm text program → ⊥
-never_program text a program (inl p) q = never_tree text a q.0 p q.1
-never_program text a program (inr p) q =
-    p.0.2 program (subst (λ (tree : Tree). IsProgram (layout tree) program) (same_tree text q.0 p.0.0 q.1 p.0.1) q.2)
+never_program text a program (inl p) q = never_tree text a q.0 p q.1.0
+never_program text a program (inr (inl p)) q = never_checked text a q.0 p q.1
+never_program text a program (inr (inr p)) q =
+    p.0.2 program (subst (λ (tree : Tree). IsProgram (layout tree) program) (same_tree text q.0 p.0.0 q.1.0 p.0.1.0) q.2)
 
 one_of_form : (text : List ℕ) (a b : Program) → IsOfForm text a → IsOfForm text b → a ≡ b
 one_of_form text a b p q =
-    one_program (layout q.0) a b (subst (λ (tree : Tree). IsProgram (layout tree) a) (same_tree text p.0 q.0 p.1 q.1) p.2) q.2
+    one_program (layout q.0) a b (subst (λ (tree : Tree). IsProgram (layout tree) a) (same_tree text p.0 q.0 p.1.0 q.1.0) p.2) q.2
 
 starting_once : (command : Command) (readings : SourceReadings) (a b : Answer) → Starting command readings a → Starting command readings b → a ≡ b
 starting_once command readings =
@@ -248,6 +268,22 @@ reads_input (commands.Run execute) readings a is p = p
 reads_input (commands.Show show) readings a is p = absurd cc
 reads_input (commands.Asm assemble) readings a is p = absurd cc
 reads_input commands.Planned readings a is p = absurd cc
+
+-- a command that goes by what a program means reads an input, as the commands are today, ..
+pub compiled_reads : (command : Command) → IsCompiled command → IsRead command sources.Input
+compiled_reads (commands.Check check) is = refl
+compiled_reads (commands.Run execute) is = refl
+compiled_reads (commands.Show show) is = absurd is
+compiled_reads (commands.Asm assemble) is = absurd is
+compiled_reads commands.Planned is = absurd is
+
+-- .. and one that reads an input goes by what a program means
+pub reads_compiled : (command : Command) → IsRead command sources.Input → IsCompiled command
+reads_compiled (commands.Check check) is = tt
+reads_compiled (commands.Run execute) is = tt
+reads_compiled (commands.Show show) is = absurd cc
+reads_compiled (commands.Asm assemble) is = absurd cc
+reads_compiled commands.Planned is = absurd cc
 
 -- a program that is unfit or no text is refused by each command that reads one
 pub as_program : (given : Reading) (a : Answer) → IsRefused sources.Program NoTree given a → IsRefused sources.Program NoProgram given a
@@ -296,11 +332,14 @@ ordered command readings (answers.Missing source) c = unfit_ordered command read
 ordered command readings (answers.ReadFault source) c = unfit_ordered command readings source (answers.ReadFault source) c.0 (inr (inl (c.1, refl)))
 ordered command readings (answers.TooLong source) c = unfit_ordered command readings source (answers.TooLong source) c.0 (inr (inr (c.1, refl)))
 ordered command readings answers.NotBuilt (inl p) = subst (λ (c : Command). Ordered c readings answers.NotBuilt) (sym p) refl
-ordered command readings answers.NotBuilt (inr (inl p)) = reads_input command readings answers.NotBuilt p.0 (inl (inr (p.1.0, p.1.1, p.1.2, inr (p.1.3, refl))))
+ordered command readings answers.NotBuilt (inr (inl p)) = reads_input command readings answers.NotBuilt (compiled_reads command p.0) (inl (inr (p.1.0, p.1.1, p.1.2, inr (inr (p.1.3, refl)))))
 ordered command readings answers.NotBuilt (inr (inr p)) = reads_input command readings answers.NotBuilt p.0 (inr (p.1, p.2, inl (inr (p.3.0, p.3.1, p.3.2, (p.3.3, refl)))))
 ordered command readings (answers.TextRefused fault) c =
     let held = c.1 in
     no_text_ordered command readings (answers.TextRefused fault) c.0 (inr (held.0, held.1, held.2, (fault, held.3, refl)))
+ordered command readings (answers.ProgramRefused refusal) c =
+    let held = c.1 in
+    reads_input command readings (answers.ProgramRefused refusal) (compiled_reads command c.0) (inl (inr (held.0, held.1, held.2, inr (inl (refusal, held.3, refl)))))
 ordered command readings (answers.CasmRefused fault) c =
     let held = c.1 in
     reads_casm command readings (answers.CasmRefused fault) c.0 (inl (inr (held.0, held.1, held.2, (fault, held.3, refl))))
@@ -385,10 +424,12 @@ module _ (command : Command) (readings : SourceReadings)
       | inr refused ↦ none (answers.TextRefused refused.0) (reads, (text, is, within, refused.1))
     ])
 
-    -- .. it is of no form that is built, or it can be run, ..
+    -- .. its program is refused, or of no form that is built, or it can be run, ..
     no_program : IsRead command sources.Program → IsRead command sources.Input → ((program : Program) (input : Input) → CanRun readings program input → ⊥) → ⊥
-    no_program reads reads_input more = no_tree reads (λ tree text is within sierra.
-        none answers.NotBuilt (inr (inl (reads_input, (text, is, within, (tree, sierra, λ program is_program. no_input reads_input more program (text, is, within, (tree, sierra, is_program))))))))
+    no_program reads reads_input more = no_tree reads (λ tree text is within sierra. passes_or_refused tree
+        (λ passes. none answers.NotBuilt
+        (inr (inl (reads_compiled command reads_input, (text, is, within, (tree, (sierra, passes), λ program is_program. no_input reads_input more program (text, is, within, (tree, (sierra, passes), is_program))))))))
+        (λ refusal refused. none (answers.ProgramRefused refusal) (reads_compiled command reads_input, (text, is, within, (tree, sierra, refused)))))
 
     -- .. and of code
     no_casm : IsRead command sources.Casm → ⊥

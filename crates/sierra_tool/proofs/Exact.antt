@@ -19,7 +19,7 @@ use Rattle.first_form.specs.declared.input.Input.{Input}
 use Rattle.first_form.specs.declared.verdict.Verdict.{Verdict}
 use Rattle.casm_word.specs.declared.instr.Instr.{Instr}
 use Rattle.sierra_tool.specs.Causes.{Reading, absent, unread, found, SourceReadings, Gives, AreReadings, Holds, IsOfForm, CanRun, ComesTo, Cause}
-use Rattle.sierra_tool.specs.Command.{IsPlanned, IsCommand, Parses, name_of, IsRead, status_of}
+use Rattle.sierra_tool.specs.Command.{IsPlanned, IsCommand, Parses, name_of, IsRead, IsCompiled, status_of}
 use Rattle.sierra_tool.specs.Exact.{reading_of, readings_of, HasStart, HasRunThat, HasText, HasCasm, HasExactStatus, IsExact}
 use Rattle.sierra_tool.specs.Tool.{Tool}
 use Rattle.felt64.specs.Field.{modulus}
@@ -32,7 +32,7 @@ use Rattle.sierra_tool.specs.declared.command.Show.{Show}
 use Rattle.sierra_text.specs.Layout.{layout}
 use Rattle.first_form.specs.Honest.{honest_run}
 use Rattle.run_file.specs.Spelling.{spelling}
-use Rattle.sierra_tool.proofs.Causes.{one_answer, never_accepted}
+use Rattle.sierra_tool.proofs.Causes.{one_answer, never_accepted, compiled_reads, reads_compiled}
 use Rattle.first_form.proofs.DecidedRuns.{accepted_or_rejected}
 use Rattle.first_form.proofs.VerdictLaws.{some_verdict}
 
@@ -55,6 +55,9 @@ module _ (command other : Command) (readings others : SourceReadings)
     read_over : (source : Source) → IsRead command source → IsRead other source
     read_over source is = subst (λ name. IsSome name) (same source) is
 
+    compiled_over : IsCompiled command → IsCompiled other
+    compiled_over is = reads_compiled other (read_over sources.Input (compiled_reads command is))
+
     held_over : (source : Source) (is : List ℕ → Type 0) → Holds source (readings source) is → Holds source (others source) is
     held_over source is = holds_over source is (readings source) (others source) (agrees source)
 
@@ -76,9 +79,10 @@ module _ (command other : Command) (readings others : SourceReadings)
         let long = c.1 in
         (comes_over source c.0, (long.0, agrees source (λ e. cc (long.1)) ∙ long.1, long.2))
     cause_over answers.NotBuilt calm (inl c) = inl (as_planned c)
-    cause_over answers.NotBuilt calm (inr (inl c)) = inr (inl (read_over sources.Input c.0, held_over sources.Program _ c.1))
+    cause_over answers.NotBuilt calm (inr (inl c)) = inr (inl (compiled_over c.0, held_over sources.Program _ c.1))
     cause_over answers.NotBuilt calm (inr (inr c)) = inr (inr (read_over sources.Input c.0, c.1, held_over sources.Program _ c.2, held_over sources.Input _ c.3))
     cause_over (answers.TextRefused fault) calm c = (read_over sources.Program c.0, held_over sources.Program _ c.1)
+    cause_over (answers.ProgramRefused refusal) calm c = (compiled_over c.0, held_over sources.Program _ c.1)
     cause_over (answers.CasmRefused fault) calm c = (read_over sources.Casm c.0, held_over sources.Casm _ c.1)
     cause_over (answers.NotEnoughGas need given) calm c =
         (read_over sources.Input c.0, c.1, c.2, held_over sources.Program _ c.3, held_over sources.Input _ c.4, c.5, c.6, c.7)
@@ -241,6 +245,7 @@ of_zero (answers.TooLong source) e = absurd (omega (arith, e))
 of_zero answers.NotBuilt e = absurd (omega (arith, e))
 of_zero (answers.TextRefused fault) e = absurd (omega (arith, e))
 of_zero (answers.CasmRefused fault) e = absurd (omega (arith, e))
+of_zero (answers.ProgramRefused refusal) e = absurd (omega (arith, e))
 of_zero (answers.NotEnoughGas need given) e = absurd (omega (arith, e))
 of_zero (answers.RunRefused refusal) e = absurd (omega (arith, e))
 of_zero (answers.RunRejected fault) e = absurd (omega (arith, e))
@@ -290,6 +295,7 @@ fifteen_rejected command readings (answers.TooLong source) e c = absurd (omega (
 fifteen_rejected command readings answers.NotBuilt e c = absurd (omega (arith, e))
 fifteen_rejected command readings (answers.TextRefused fault) e c = absurd (omega (arith, e))
 fifteen_rejected command readings (answers.CasmRefused fault) e c = absurd (omega (arith, e))
+fifteen_rejected command readings (answers.ProgramRefused refusal) e c = absurd (omega (arith, e))
 fifteen_rejected command readings (answers.NotEnoughGas need given) e c = absurd (omega (arith, e))
 fifteen_rejected command readings (answers.RunRefused refusal) e c = absurd (omega (arith, e))
 

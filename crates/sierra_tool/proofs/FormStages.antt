@@ -1,8 +1,9 @@
 -- The program of a tree: what reading a Sierra text gave, as what reading a program of the form gives.
-use Rattle.std.proofs.Common.{◌≢◌, ℕ, List, Result, Ok, Err, refl, inr}
+use Rattle.std.proofs.Common.{◌≢◌, ℕ, List, Result, Ok, Err, refl, inl, inr}
 use Rattle.edge_io.specs.Files.{FilesView}
 use Rattle.first_form.specs.declared.program.Program.{Program}
 use Rattle.first_form.specs.Forms.{IsProgram}
+use Rattle.program_checks.specs.Checks as checks
 use Rattle.sierra_text.specs.Layout.{layout}
 use Rattle.sierra_types.specs.declared.program.Program.{Program as Tree}
 use Rattle.sierra_tool.specs.declared.answer.Answer.TheVariants as answers
@@ -10,7 +11,7 @@ use Rattle.sierra_tool.specs.declared.answer.Stop.{Stop}
 use Rattle.sierra_tool.specs.declared.answer.Stop.TheVariants as stops
 use Rattle.sierra_tool.specs.declared.command.Source.TheVariants as sources
 use Rattle.sierra_tool.specs.Causes.{absent, IsTree}
-use Rattle.sierra_tool.specs.Stages.{Stops, IsRefused, NoTree, NoProgram, ReadsSource}
+use Rattle.sierra_tool.specs.Stages.{Stops, IsRefused, NoTree, NoProgram, ReadsSource, PassesChecks}
 use Rattle.sierra_tool.specs.Tool.{IsCounted}
 use Rattle.sierra_tool.proofs.Causes.{as_program}
 use Rattle.sierra_tool.proofs.Showing.{TakesTree}
@@ -37,19 +38,34 @@ module _ (before now : FilesView) (name : List ℕ) where
     pub no_room : ReadsProgram (Err stops.OutOfMemory)
     no_room = record { keeps = part.keeps; reading = part.reading; given = part.given; outcome = held_present sources.Program part.reading (λ text. IsTree text tree) part.outcome.0 }
 
-    -- .. or it is that of a program of the form, ..
-    pub is_of_form : (program : Program) → IsProgram (layout tree) program → ReadsProgram (Ok program)
-    is_of_form program is =
-        let held = part.outcome.0 in
-        record { keeps = part.keeps; reading = part.reading; given = part.given; outcome = (held.0, held.1, held.2, (tree, held.3, is)) }
-
-    -- .. or of none
-    pub is_of_no_form : ((program : Program) → IsProgram (layout tree) program → ⊥) → ReadsProgram (Err (stops.Refused answers.NotBuilt))
-    is_of_no_form none =
+    -- .. or its program is refused, or there is no memory for the checks, ..
+    pub not_checked : (stop : Stop) → PassesChecks tree (Err stop) → ReadsProgram (Err stop)
+    not_checked (stops.Refused answer) refused =
         let held = part.outcome.0 in
         record {
           keeps = part.keeps;
           reading = part.reading;
           given = part.given;
-          outcome = (inr (held.0, held.1, held.2, inr ((tree, held.3, none), refl)), uncounted before now answers.NotBuilt (λ source e. cc) (λ source e. cc));
+          outcome = (
+            inr (held.0, held.1, held.2, inr (inl (refused.0, (tree, held.3, refused.1), refused.2))),
+            uncounted before now answer (λ source e. cc (refused.2)) (λ source e. cc (refused.2)),
+          );
+        }
+    not_checked stops.OutOfMemory out = no_room
+
+    -- .. or it is that of a program of the form, ..
+    pub is_of_form : checks.Passes tree → (program : Program) → IsProgram (layout tree) program → ReadsProgram (Ok program)
+    is_of_form passes program is =
+        let held = part.outcome.0 in
+        record { keeps = part.keeps; reading = part.reading; given = part.given; outcome = (held.0, held.1, held.2, (tree, (held.3, passes), is)) }
+
+    -- .. or of none
+    pub is_of_no_form : checks.Passes tree → ((program : Program) → IsProgram (layout tree) program → ⊥) → ReadsProgram (Err (stops.Refused answers.NotBuilt))
+    is_of_no_form passes none =
+        let held = part.outcome.0 in
+        record {
+          keeps = part.keeps;
+          reading = part.reading;
+          given = part.given;
+          outcome = (inr (held.0, held.1, held.2, inr (inr ((tree, (held.3, passes), none), refl))), uncounted before now answers.NotBuilt (λ source e. cc) (λ source e. cc));
         }

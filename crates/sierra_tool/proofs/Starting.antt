@@ -14,6 +14,7 @@ use Rattle.sierra_tool.specs.declared.command.Source.TheVariants as sources
 use Rattle.sierra_tool.specs.Causes.{Reading, Holds, IsOfForm, CanRun, Cause}
 use Rattle.sierra_tool.specs.Command.{name_of, IsRead}
 use Rattle.sierra_tool.specs.Stages.{IsRefused, NoProgram, NoInput, ReadsSource, Starts}
+use Rattle.sierra_tool.proofs.Causes.{reads_compiled}
 use Rattle.sierra_tool.proofs.Stages.{unfit_cause, put, unasked, Progress, begins, goes_on, stops_there, program_present, program_read_present, uncounted}
 
 abbrev pub TakesProgram : Reading → Program → Type 0
@@ -36,7 +37,10 @@ module _ (before middle : FilesView) (command : Command) (name : List ℕ) (is :
         | inl unfit ↦ unfit_cause command readings sources.Program answer reads unfit
         | inr held ↦ elim held.3 [
           | inl no_text ↦ subst (Cause (Some command) readings) (sym no_text.2) (reads, (held.0, held.1, held.2, no_text.1))
-          | inr no_form ↦ subst (Cause (Some command) readings) (sym no_form.1) (inr (inl (reads_input, (held.0, held.1, held.2, no_form.0))))
+          | inr behind ↦ elim behind [
+            | inl refused ↦ subst (Cause (Some command) readings) (sym refused.2) (reads_compiled command reads_input, (held.0, held.1, held.2, refused.1))
+            | inr no_form ↦ subst (Cause (Some command) readings) (sym no_form.1) (inr (inl (reads_compiled command reads_input, (held.0, held.1, held.2, no_form.0))))
+          ]
         ]
       ] in
       stops_there before before middle command (unasked before.contents (Some command)) sources.Program name (begins before command) is

@@ -20,11 +20,13 @@ use Rattle.sierra_tool.specs.declared.command.Source.{Source}
 use Rattle.sierra_tool.specs.declared.command.Source.TheVariants as sources
 use Rattle.first_form.specs.declared.program.Program.{Program}
 use Rattle.first_form.specs.declared.input.Input.{Input}
-use Rattle.sierra_tool.specs.Command.{name_of, IsRead, limit}
+use Rattle.sierra_tool.specs.Command.{name_of, IsRead, IsCompiled, limit}
 use Rattle.casm_text.specs.Refusals as casm_refusals
 use Rattle.casm_text.specs.Text as casm
 use Rattle.casm_word.specs.declared.instr.Instr.{Instr}
 use Rattle.first_form.specs.Forms.{IsProgram, IsInput}
+use Rattle.program_checks.specs.Checks as checks
+use Rattle.program_checks.specs.declared.refusal.Refusal.{Refusal}
 use Rattle.first_form.specs.Honest.{honest_run}
 use Rattle.first_form.specs.Meaning.{entry_gas}
 use Rattle.first_form.specs.Rejected.{IsRejected}
@@ -69,13 +71,21 @@ IsRunFile bytes run = IsRun run × (bytes ≡ spelling run)
 abbrev pub IsTree : List ℕ → Tree → Type 0
 IsTree text tree = Text standard tree text × IsShort tree
 
+-- the text is that of a program that isn't refused
+abbrev pub IsCheckedTree : List ℕ → Tree → Type 0
+IsCheckedTree text tree = IsTree text tree × checks.Passes tree
+
+-- the text is that of a program that is refused
+abbrev pub IsRefusedTree : List ℕ → Refusal → Type 0
+IsRefusedTree text refusal = (tree : Tree) × IsTree text tree × checks.Refused tree refusal
+
 -- the text is that of a program of the form that is built, whatever its layout: the plain layout is the form's text
 abbrev pub IsOfForm : List ℕ → Program → Type 0
-IsOfForm text program = (tree : Tree) × IsTree text tree × IsProgram (layout tree) program
+IsOfForm text program = (tree : Tree) × IsCheckedTree text tree × IsProgram (layout tree) program
 
--- the text is that of a program, but of none of the form that is built
+-- the text is that of a program that isn't refused, but of none of the form that is built
 abbrev pub IsOfNoForm : List ℕ → Type 0
-IsOfNoForm text = (tree : Tree) × IsTree text tree × ((program : Program) → IsProgram (layout tree) program → ⊥)
+IsOfNoForm text = (tree : Tree) × IsCheckedTree text tree × ((program : Program) → IsProgram (layout tree) program → ⊥)
 
 abbrev pub HasTree : SourceReadings → Tree → Type 0
 HasTree readings tree = Holds sources.Program (readings sources.Program) (λ text. IsTree text tree)
@@ -122,11 +132,13 @@ Cause (Some command) readings (answers.ReadFault source) = ComesTo command readi
 Cause (Some command) readings (answers.TooLong source) = ComesTo command readings source × IsTooLong source (readings source)
 Cause (Some command) readings answers.NotBuilt =
     (command ≡ commands.Planned)
-    ⊎ (IsRead command sources.Input × Holds sources.Program (readings sources.Program) IsOfNoForm)
+    ⊎ (IsCompiled command × Holds sources.Program (readings sources.Program) IsOfNoForm)
     ⊎ (IsRead command sources.Input × (program : Program) × HasProgram readings program
     × Holds sources.Input (readings sources.Input) (λ text. (input : Input) → IsInput program text input → ⊥))
 Cause (Some command) readings (answers.TextRefused fault) =
     IsRead command sources.Program × Holds sources.Program (readings sources.Program) (λ text. Refused text fault)
+Cause (Some command) readings (answers.ProgramRefused refusal) =
+    IsCompiled command × Holds sources.Program (readings sources.Program) (λ text. IsRefusedTree text refusal)
 Cause (Some command) readings (answers.CasmRefused fault) =
     IsRead command sources.Casm × Holds sources.Casm (readings sources.Casm) (λ text. casm_refusals.Refused text fault)
 Cause (Some command) readings (answers.NotEnoughGas need given) =

@@ -4,6 +4,7 @@ use Rattle.byte_reading.specs.Decimal.{decimal_text}
 use Rattle.std.specs.List.{concat}
 use Rattle.std.specs.Option.{unwrap_or}
 use Rattle.first_form.specs.Texts.{verdict_text}
+use Rattle.program_checks.specs.Lines.{refusal_line}
 use Rattle.sierra_tool.specs.declared.answer.Answer.{Answer}
 use Rattle.sierra_tool.specs.declared.answer.Answer.TheVariants as answers
 use Rattle.sierra_tool.specs.declared.command.Command.{Command}
@@ -67,6 +68,14 @@ name_of (Some command) source = name_among (files_of command) source
 abbrev pub IsRead : Command → Source → Type 0
 IsRead command source = IsSome (name_of (Some command) source)
 
+-- the command goes by what a program means, and not by its text alone, so that the program has to pass the checks
+abbrev pub IsCompiled : Command → Type 0
+IsCompiled (commands.Check check) = Unit {0}
+IsCompiled (commands.Run execute) = Unit {0}
+IsCompiled (commands.Show show) = ⊥
+IsCompiled (commands.Asm assemble) = ⊥
+IsCompiled commands.Planned = ⊥
+
 -- the name of the first of these files
 abbrev pub first_among : List (Source × List ℕ) → Option (List ℕ)
 first_among [] = None
@@ -93,6 +102,7 @@ status_of (answers.TooLong source) = 7
 status_of answers.NotBuilt = 9
 status_of (answers.TextRefused fault) = 10
 status_of (answers.CasmRefused fault) = 10
+status_of (answers.ProgramRefused refusal) = 11
 status_of (answers.NotEnoughGas need given) = 13
 status_of (answers.RunRefused refusal) = 14
 status_of (answers.RunRejected fault) = 15
@@ -114,6 +124,7 @@ text_of command (answers.TooLong source) = file_line (codes "too long ") command
 text_of command answers.NotBuilt = codes "not built\n"
 text_of command (answers.TextRefused fault) = text_fault_line fault
 text_of command (answers.CasmRefused fault) = asm_fault_line fault
+text_of command (answers.ProgramRefused refusal) = refusal_line refusal
 text_of command (answers.NotEnoughGas need given) = concat (codes "need " ∷ decimal need ∷ codes " given " ∷ decimal given ∷ codes "\n" ∷ [])
 text_of command (answers.RunRefused refusal) = file_refusal_line refusal
 text_of command (answers.RunRejected fault) = check_fault_line fault

@@ -9,10 +9,12 @@ use Rattle.sierra_tool.specs.Command.{text_of}
 
 abbrev pub bytes_of : AnswerText → List ℕ
 bytes_of (texts.Made text) = string_bytes text
+bytes_of (texts.Line line) = line.items
 bytes_of (texts.Held bytes) = bytes.now
 
--- the lines that are made for an answer; for bytes that it holds there are none
+-- the lines that are made for an answer as text; for bytes that it holds, and for a line of bytes, there are none
 abbrev pub lines_of : Option Command → Answer → List ℕ
 lines_of command (answers.Ran file) = []
 lines_of command (answers.Printed text) = []
+lines_of command (answers.ProgramRefused refusal) = []
 lines_of command answer = text_of command answer

@@ -18,8 +18,11 @@ use Rattle.sierra_tool.specs.declared.output.Unwritten.TheVariants as unwritten
 use Rattle.sierra_tool.specs.declared.work.Start.{Start}
 use Rattle.first_form.specs.declared.program.Program.{Program}
 use Rattle.first_form.specs.declared.input.Input.{Input}
-use Rattle.sierra_tool.specs.Causes.{Reading, absent, unread, found, SourceReadings, Gives, AreReadings, Holds, IsTooLong, IsOfNoForm, IsNoRunFile, CanRun, Cause}
+use Rattle.sierra_tool.specs.Causes.{Reading, absent, unread, found, SourceReadings, Gives, AreReadings, Holds, IsTooLong, IsRefusedTree, IsOfNoForm, IsNoRunFile, CanRun, Cause}
 use Rattle.first_form.specs.Forms.{IsInput}
+use Rattle.program_checks.specs.Checks as checks
+use Rattle.program_checks.specs.declared.refusal.Refusal.{Refusal}
+use Rattle.sierra_types.specs.declared.program.Program.{Program as Tree}
 use Rattle.sierra_tool.specs.Command.{limit, status_of, text_of}
 use Rattle.sierra_tool.specs.Tool.{IsCounted, Delivers, MayHaveFirst}
 
@@ -42,8 +45,12 @@ IsRefused source wrong given answer = IsUnfit source given answer ⊎ Holds sour
 abbrev pub NoTree : List ℕ → Answer → Type 0
 NoTree text answer = (fault : TextFault) × Refused text fault × (answer ≡ answers.TextRefused fault)
 
+-- the refusal of a program that doesn't pass the checks
+abbrev pub FailsChecks : List ℕ → Answer → Type 0
+FailsChecks text answer = (refusal : Refusal) × IsRefusedTree text refusal × (answer ≡ answers.ProgramRefused refusal)
+
 abbrev pub NoProgram : List ℕ → Answer → Type 0
-NoProgram text answer = NoTree text answer ⊎ (IsOfNoForm text × (answer ≡ answers.NotBuilt))
+NoProgram text answer = NoTree text answer ⊎ FailsChecks text answer ⊎ (IsOfNoForm text × (answer ≡ answers.NotBuilt))
 
 abbrev pub NoInput : Program → List ℕ → Answer → Type 0
 NoInput program text answer = ((input : Input) → IsInput program text input → ⊥) × (answer ≡ answers.NotBuilt)
@@ -63,6 +70,11 @@ pub record ReadsSource {X : Type 0} (before now : FilesView) (name : List ℕ) (
   pub reading : Reading
   pub given : Gives before.contents name reading
   pub outcome : MatchResult result (taken reading) (Stops (λ answer. refused reading answer × IsCounted before now answer) (reading ≢ absent))
+
+-- a tree passes the checks of programs, or the stop is the refusal of the one that it doesn't pass
+abbrev pub PassesChecks : Tree → Result ⊤ Stop → Type 0
+PassesChecks tree result =
+    MatchResult result (λ done. checks.Passes tree) (Stops (λ answer. (refusal : Refusal) × checks.Refused tree refusal × (answer ≡ answers.ProgramRefused refusal)) (Unit {0}))
 
 -- the bytes that were found
 abbrev pub IsFound : Source → Reading → List ℕ → Type 0

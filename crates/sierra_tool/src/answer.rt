@@ -9,6 +9,7 @@ use crate::command::Source;
 use casm_text::AsmFault;
 use casm_word::Code;
 use first_form::{CheckFault, Verdict};
+use program_checks::Refusal;
 use run_file::FileRefusal;
 use sierra_text::TextFault;
 use std::alloc::AllocError;
@@ -39,6 +40,8 @@ pub enum Answer {
     TextRefused(TextFault),
     /// The bytes are no CASM text, by this fault.
     CasmRefused(AsmFault),
+    /// The program is refused, for this first reason.
+    ProgramRefused(Refusal),
     /// The input's gas is less than a run of the program needs.
     NotEnoughGas {
         /// The gas that a run needs.
@@ -65,6 +68,7 @@ impl Answer {
             Answer::TooLong(_) => 7,
             Answer::NotBuilt => 9,
             Answer::TextRefused(_) | Answer::CasmRefused(_) => 10,
+            Answer::ProgramRefused(_) => 11,
             Answer::NotEnoughGas { .. } => 13,
             Answer::RunRefused(_) => 14,
             Answer::RunRejected(_) => 15,

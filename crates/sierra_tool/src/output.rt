@@ -15,6 +15,7 @@ use crate::lines::{
 };
 use edge_io::{Failed, Sink, write_all};
 use first_form::verdict_text;
+use program_checks::refusal_line;
 use std::alloc::{AllocError, Global};
 
 /// Why an answer was not written.
@@ -47,6 +48,8 @@ impl From<AllocError> for Unwritten {
 enum AnswerText<'a> {
     /// Text of its own.
     Made(String),
+    /// A line of bytes of its own.
+    Line(Vec<u8>),
     /// The bytes that the answer holds.
     Held(&'a [u8]),
 }
@@ -58,6 +61,7 @@ impl AnswerText<'_> {
     {
         match self {
             AnswerText::Made(text) => text.as_bytes(),
+            AnswerText::Line(line) => line,
             AnswerText::Held(bytes) => bytes,
         }
     }
@@ -92,17 +96,18 @@ fn text<'a>(
     match answer {
         Answer::Ran(file) => Ok(AnswerText::Held(file.as_slice())),
         Answer::Printed(text) => Ok(AnswerText::Held(text.as_slice())),
+        Answer::ProgramRefused(refusal) => Ok(AnswerText::Line(refusal_line(alloc, refusal)?)),
         _ => Ok(AnswerText::Made(lines(alloc, command, answer)?)),
     }
 }
 
-/// The lines that are made for an answer; for bytes that it holds there are none.
+/// The lines that are made for an answer as text; for bytes that it holds, and for a line of bytes, there are none.
 fn lines(alloc: Global, command: &Command, answer: &Answer) -> Result<String, AllocError>
     ensures { IfOk result (λ text. string_bytes text ≡ lines_of (Some command.now) answer.now) }
 {
     match answer {
         Answer::Judged(verdict) => verdict_text(alloc, verdict),
-        Answer::Ran(_) | Answer::Printed(_) => Ok(String::new(alloc)),
+        Answer::Ran(_) | Answer::Printed(_) | Answer::ProgramRefused(_) => Ok(String::new(alloc)),
         Answer::Assembled(code) => words_text(alloc, code),
         Answer::Usage => String::from_str(alloc, "usage\n"),
         Answer::Missing(source) => line(alloc, "missing ", command.file(*source)),

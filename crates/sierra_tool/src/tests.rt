@@ -23,6 +23,10 @@ const PROGRAM: &[u8] = b"type felt64 = felt64;\n\n\
     return([3]);\n\n\
     main@0([0]: felt64) -> (felt64);\n";
 
+/// A program whose type and libfunc are unknown.
+const UNKNOWN: &[u8] =
+    b"type felt252 = felt252;libfunc felt64_div = felt64_div;return();main@0() -> ();";
+
 /// The input of the run.
 const INPUT: &[u8] = b"gas 300\n5\n";
 
@@ -342,7 +346,14 @@ fn runs_programs_so_that_their_checks_accept(rt: HostRuntime) -> Result<(), Fail
 #[test]
 fn refuses_what_cannot_be_run(rt: HostRuntime) -> Result<(), Fail> {
     let alloc = rt.alloc();
-    let rows: [(&[u8], &[u8], u8, &[u8]); 3] = [
+    let unknown_libfunc =
+        b"type felt64 = felt64;libfunc felt64_div = felt64_div;return();main@0() -> ();";
+    let used_twice = b"type felt64 = felt64;libfunc drop<felt64> = drop<felt64>;\
+        drop<felt64>([0]) -> ();drop<felt64>([0]) -> ();return();main@0([0]: felt64) -> ();";
+    let rows: [(&[u8], &[u8], u8, &[u8]); 6] = [
+        (UNKNOWN, INPUT, 11, b"P10 felt252\n"),
+        (unknown_libfunc, INPUT, 11, b"P11 felt64_div\n"),
+        (used_twice, INPUT, 11, b"P20 1 0\n"),
         (PROGRAM, b"gas 299\n5\n", 13, b"need 300 given 299\n"),
         (PROGRAM, b"gas 300\n05\n", 9, b"not built\n"),
         (b"type felt64 = felt64", INPUT, 10, b"T1 1 21\n"),
@@ -355,6 +366,23 @@ fn refuses_what_cannot_be_run(rt: HostRuntime) -> Result<(), Fail> {
         )?;
         assert_eq!(rt; answered, status, "{output:?}");
         assert_eq!(rt; written.as_slice(), output);
+    }
+    Ok(())
+}
+
+/// A refused program is refused before the other files are read, by the first of its faults, but only where a command goes
+/// by what it means.
+#[test]
+fn refuses_programs_before_other_files(rt: HostRuntime) -> Result<(), Fail> {
+    let alloc = rt.alloc();
+    let rows: [(&[&str], u8); 3] = [(&CHECK, 11), (&["run", "p", "i"], 11), (&["show", "p"], 0)];
+    for (arguments, status) in rows {
+        let (answered, written) = call(alloc, arguments, [Some(UNKNOWN), None, None])?;
+        assert_eq!(rt; answered, status, "{arguments:?}");
+        assert_eq!(rt;
+            written.as_slice() == b"P10 felt252\n".as_slice(),
+            status == 11
+        );
     }
     Ok(())
 }

@@ -7,12 +7,13 @@ ghost use Rattle.sierra_text.specs.AsciiNames.{HasAsciiNames};
 ghost use Rattle.sierra_text.specs.Layout.{layout};
 ghost use Rattle.sierra_tool.specs.Causes.{Holds, IsTree, IsOfForm};
 ghost use Rattle.sierra_tool.specs.Command.{IsRead};
-ghost use Rattle.sierra_tool.specs.Stages.{ReadsSource, IsFound, IsUnfit, IsRefused, NoTree, NoProgram, NoInput, Starts};
+ghost use Rattle.sierra_tool.specs.Stages.{ReadsSource, IsFound, IsUnfit, IsRefused, PassesChecks, NoTree, NoProgram, NoInput, Starts};
 
 use crate::answer::{Answer, Stop};
 use crate::command::{Command, Source};
 use edge_io::{Files, ReadFault, read_all};
 use first_form::{Input, Program, entry_gas, read_input, read_program};
+use program_checks::{Refusal, check};
 use sierra_text::{TextFault, print};
 use std::alloc::{AllocError, Global};
 
@@ -87,9 +88,21 @@ fn program<F: Files>(alloc: Global, files: &mut F, name: &str) -> Result<Program
         (IsRefused Source.Program NoProgram) result }
 {
     let tree = read_tree(alloc, files, name)?;
+    pass_checks(alloc, &tree)?;
     match of_form(alloc, &tree)? {
         Some(program) => Ok(program),
         None => Err(Stop::Refused(Answer::NotBuilt)),
+    }
+}
+
+/// Stops with the first refusal of a program, if it has one.
+fn pass_checks(alloc: Global, tree: &sierra_types::Program) -> Result<(), Stop>
+    ensures { PassesChecks tree.now result }
+{
+    match check(alloc, tree) {
+        Ok(_) => Ok(()),
+        Err(Refusal::Memory) => Err(Stop::OutOfMemory),
+        Err(refusal) => Err(Stop::Refused(Answer::ProgramRefused(refusal))),
     }
 }
 

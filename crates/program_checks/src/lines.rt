@@ -1,0 +1,95 @@
+//! The line of a refused program: a code, and the name or the numbers that it is about.
+
+ghost use Rattle.std.specs.Prelude.{◌≡◌, IfOk, codes, string_bytes};
+ghost use Rattle.program_checks.specs.Lines.{refusal_line, type_fault_line, libfunc_fault_line, linear_fault_line, name_line};
+
+use crate::refusal::Refusal;
+use libfunc_registry::SigFault;
+use linear_check::LinearFault;
+use sierra_types::Name;
+use std::alloc::{AllocError, Global};
+use type_table::TypeFault;
+
+/// The line of a refusal, in bytes, as the names of a program are bytes. Out of memory has no line.
+pub fn refusal_line(alloc: Global, refusal: &Refusal) -> Result<Vec<u8>, AllocError>
+    ensures { IfOk result (λ line. line.items ≡ refusal_line refusal.now) }
+{
+    match refusal {
+        Refusal::Types(fault) => type_fault_line(alloc, fault),
+        Refusal::Libfuncs(fault) => libfunc_fault_line(alloc, fault),
+        Refusal::Statements(fault) => Ok(linear_fault_line(alloc, *fault)?.into_bytes()),
+        Refusal::Memory => Ok(Vec::new(alloc)),
+    }
+}
+
+/// The line of refused types and functions.
+fn type_fault_line(alloc: Global, fault: &TypeFault) -> Result<Vec<u8>, AllocError>
+    ensures { IfOk result (λ line. line.items ≡ type_fault_line fault.now) }
+{
+    match fault {
+        TypeFault::UnknownType(name) => name_line(alloc, b"P10 ", name),
+        TypeFault::BadArgs(id) => name_line(alloc, b"P12 ", id),
+        TypeFault::TypeInfoDiffers(id) => name_line(alloc, b"P13 ", id),
+        TypeFault::TypeCycle(id) => name_line(alloc, b"P15 ", id),
+        TypeFault::SizeAbove(id) => name_line(alloc, b"P16 ", id),
+        TypeFault::Duplicate(id) => name_line(alloc, b"P17 ", id),
+        TypeFault::FunctionType(id) => name_line(alloc, b"P18 ", id),
+        TypeFault::Memory => Ok(Vec::new(alloc)),
+    }
+}
+
+/// The line of a libfunc that has no signature.
+fn libfunc_fault_line(alloc: Global, fault: &SigFault) -> Result<Vec<u8>, AllocError>
+    ensures { IfOk result (λ line. line.items ≡ libfunc_fault_line fault.now) }
+{
+    match fault {
+        SigFault::UnknownLibfunc(name) => name_line(alloc, b"P11 ", name),
+        SigFault::BadArgs(id) => name_line(alloc, b"P12 ", id),
+        SigFault::AbilityMissing(id) => name_line(alloc, b"P14 ", id),
+        SigFault::Memory => Ok(Vec::new(alloc)),
+    }
+}
+
+/// The line of a statement that the linear check refuses.
+fn linear_fault_line(alloc: Global, fault: LinearFault) -> Result<String, AllocError>
+    ensures { IfOk result (λ line. string_bytes line ≡ linear_fault_line fault) }
+{
+    match fault {
+        LinearFault::VarMissing {
+            statement,
+            variable,
+        } => { format!(in alloc; "P20 {statement} {variable}\n") }
+        LinearFault::VarType {
+            statement,
+            variable,
+        } => { format!(in alloc; "P21 {statement} {variable}\n") }
+        LinearFault::VarLeft {
+            statement,
+            variable,
+        } => { format!(in alloc; "P22 {statement} {variable}\n") }
+        LinearFault::VarTaken {
+            statement,
+            variable,
+        } => { format!(in alloc; "P23 {statement} {variable}\n") }
+        LinearFault::MergeDiffers {
+            statement,
+            variable,
+        } => { format!(in alloc; "P24 {statement} {variable}\n") }
+        LinearFault::AlignMissing { statement } => format!(in alloc; "P25 {statement}\n"),
+        LinearFault::SharedStatement { statement } => format!(in alloc; "P26 {statement}\n"),
+        LinearFault::Unreachable { statement } => format!(in alloc; "P27 {statement}\n"),
+        LinearFault::Shape { statement } => format!(in alloc; "P28 {statement}\n"),
+        LinearFault::Memory => Ok(String::new(alloc)),
+    }
+}
+
+/// A code with its space, and a name.
+fn name_line(alloc: Global, code: &[u8], name: &Name) -> Result<Vec<u8>, AllocError>
+    ensures { IfOk result (λ line. line.items ≡ name_line code.now name.now) }
+{
+    let mut line = Vec::new(alloc);
+    line.extend_from_slice(code)?;
+    line.extend_from_slice(name.bytes())?;
+    line.push(b'\n')?;
+    Ok(line)
+}
