@@ -17,8 +17,13 @@ use Rattle.frag_code.specs.declared.piece.Piece.{Piece}
 use Rattle.frag_code.specs.declared.piece.Piece.TheVariants as piece
 use Rattle.frag_code.specs.Evaluation.{Tally, raised, address_after, word_after, step_on, step_naming, Evaluates}
 use Rattle.frag_code.proofs.Evaluations.{passes}
-use Rattle.frag_plan.specs.Names as name
-use Rattle.frag_plan.specs.Names.{Slot, Second, Term, at_of, argument, place, side_of, resolve}
+use Rattle.cell_terms.specs.declared.term.Slot.{Slot}
+use Rattle.cell_terms.specs.declared.term.Slot.TheVariants as slots
+use Rattle.cell_terms.specs.declared.term.Second.{Second}
+use Rattle.cell_terms.specs.declared.term.Second.TheVariants as seconds
+use Rattle.cell_terms.specs.declared.term.Term.{Term}
+use Rattle.cell_terms.specs.declared.term.Term.TheVariants as terms
+use Rattle.cell_terms.specs.Resolving.{at_of, argument, place, side_of, resolve}
 use Rattle.frag_plan.specs.Plan.{Line, Plan, lay, reserve, ask, same, range, line, test, exit, piece_of, change_after, flatten}
 use Rattle.frag_plan.specs.Scene.{Scene, second, value, after, Along, slot_address, word_or_zero, scene_of, SlotListed, SecondListed, TermListed, LineHolds}
 
@@ -48,9 +53,9 @@ module _ (m : ℕ → Option ℕ) (a fp : ℕ) (args : List CellExpr) where
 
     -- a named cell keeps its address as ap moves
     slot_is : (n : Slot) → address_after a fp d (place d args n) ≡ slot_address a fp args n
-    slot_is (name.own k) = ap (moved a) (raised_lowered d reg.Ap (pos k))
-    slot_is (name.arg i) = at_lowered (at_of (argument args i))
-    slot_is (name.frame k) = refl
+    slot_is (slots.Own k) = ap (moved a) (raised_lowered d reg.Ap (pos k))
+    slot_is (slots.Arg i) = at_lowered (at_of (argument args i))
+    slot_is (slots.Frame k) = refl
 
     side_lowered : (s : Side) → side_by m (address_after a fp d) (lowered_side d s) ≡ side_by m (address a fp) s
     side_lowered (side.Cell at) = ap m (at_lowered at)
@@ -79,12 +84,12 @@ module _ (m : ℕ → Option ℕ) (a fp : ℕ) (args : List CellExpr) where
     TermHolds = TermListed m a fp args c
 
     second_back : (o : Second) → SecondListed m a fp args c o → side_by m (address_after a fp d) (side_of d args o) ≡ Some (second c o)
-    second_back (name.slot n) is = slot_word n ∙ is
-    second_back (name.number k) is = refl
+    second_back (seconds.Slot n) is = slot_word n ∙ is
+    second_back (seconds.Number k) is = refl
 
     second_reads : (o : Second) (w : ℕ) → side_by m (address_after a fp d) (side_of d args o) ≡ Some w → SecondListed m a fp args c o × (second c o ≡ w)
-    second_reads (name.slot n) w is = let here = sym (slot_word n) ∙ is in (listed _ w here, is_word _ w here)
-    second_reads (name.number k) w is = (tt, let same : k ≡ w = cc in same)
+    second_reads (seconds.Slot n) w is = let here = sym (slot_word n) ∙ is in (listed _ w here, is_word _ w here)
+    second_reads (seconds.Number k) w is = (tt, let same : k ≡ w = cc in same)
 
     both_reads : (f : ℕ → ℕ → ℕ) (n : Slot) (o : Second) (w : ℕ) → both f (m (address_after a fp d (place d args n))) (side_by m (address_after a fp d) (side_of d args o)) ≡ Some w
         → (Holds n × SecondListed m a fp args c o) × (f (c.w n) (second c o) ≡ w)
@@ -96,27 +101,27 @@ module _ (m : ℕ → Option ℕ) (a fp : ℕ) (args : List CellExpr) where
 
     -- the word of a term's expression is the term's word, of which the cells are listed
     term_reads : (t : Term) (w : ℕ) → word_after m a fp d (resolve d args t) ≡ Some w → TermHolds t × (value c t ≡ w)
-    term_reads (name.whole i) w is = let here = sym (whole_is (argument args i)) ∙ is in (listed _ w here, is_word _ w here)
-    term_reads (name.cell n) w is = let here = sym (slot_word n) ∙ is in (listed _ w here, is_word _ w here)
-    term_reads (name.behind n k) w is =
+    term_reads (terms.Whole i) w is = let here = sym (whole_is (argument args i)) ∙ is in (listed _ w here, is_word _ w here)
+    term_reads (terms.Cell n) w is = let here = sym (slot_word n) ∙ is in (listed _ w here, is_word _ w here)
+    term_reads (terms.Behind n k) w is =
         let parts = behind_parts m (m (address_after a fp d (place d args n))) (pos k) w is in
         let first = sym (slot_word n) ∙ parts.1 in
         let same = is_word _ parts.0 first in
         let there : m (sum (c.w n) k) ≡ Some w = ap (λ b. m (sum b k)) same ∙ parts.2 in
         ((listed _ parts.0 first, listed _ w there), is_word _ w there)
-    term_reads (name.word k) w is = (tt, let same : k ≡ w = cc in same)
-    term_reads (name.add n o) w is = both_reads sum n o w is
-    term_reads (name.sub n o) w is = both_reads difference n o w is
-    term_reads (name.mul n o) w is = both_reads product n o w is
+    term_reads (terms.Word k) w is = (tt, let same : k ≡ w = cc in same)
+    term_reads (terms.Add n o) w is = both_reads sum n o w is
+    term_reads (terms.Sub n o) w is = both_reads difference n o w is
+    term_reads (terms.Mul n o) w is = both_reads product n o w is
 
     term_back : (t : Term) → TermHolds t → word_after m a fp d (resolve d args t) ≡ Some (value c t)
-    term_back (name.whole i) is = whole_is (argument args i) ∙ is
-    term_back (name.cell n) is = slot_word n ∙ is
-    term_back (name.behind n k) (first, there) = ap (λ o. behind m o (pos k)) (slot_word n ∙ first) ∙ there
-    term_back (name.word k) is = refl
-    term_back (name.add n o) (first, other) = both_is sum _ _ _ _ (slot_word n ∙ first) (second_back o other)
-    term_back (name.sub n o) (first, other) = both_is difference _ _ _ _ (slot_word n ∙ first) (second_back o other)
-    term_back (name.mul n o) (first, other) = both_is product _ _ _ _ (slot_word n ∙ first) (second_back o other)
+    term_back (terms.Whole i) is = whole_is (argument args i) ∙ is
+    term_back (terms.Cell n) is = slot_word n ∙ is
+    term_back (terms.Behind n k) (first, there) = ap (λ o. behind m o (pos k)) (slot_word n ∙ first) ∙ there
+    term_back (terms.Word k) is = refl
+    term_back (terms.Add n o) (first, other) = both_is sum _ _ _ _ (slot_word n ∙ first) (second_back o other)
+    term_back (terms.Sub n o) (first, other) = both_is difference _ _ _ _ (slot_word n ∙ first) (second_back o other)
+    term_back (terms.Mul n o) (first, other) = both_is product _ _ _ _ (slot_word n ∙ first) (second_back o other)
 
   module _ (jumps : Bool) where
     abbrev Goes : List Piece → ℕ → ℕ → Tally → ℕ → Tally → Type 0

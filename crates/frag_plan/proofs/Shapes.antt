@@ -6,7 +6,7 @@ use Rattle.frag_code.specs.declared.piece.Piece.{Piece}
 use Rattle.frag_code.specs.declared.piece.Piece.TheVariants as piece
 use Rattle.frag_code.specs.Form.{begins_with_exit, is_jump, has_jump, is_exit, is_empty, is_placed, shape}
 use Rattle.frag_code.proofs.Places.{shape_parts, shape_last}
-use Rattle.frag_plan.specs.Names.{Slot}
+use Rattle.cell_terms.specs.declared.term.Slot.{Slot}
 use Rattle.frag_plan.specs.Plan.{Line, Plan, lay, reserve, ask, same, range, line, test, exit, ref_of, piece_of, change_after, flatten, fragment, is_ask, is_end, asks_met}
 
 -- a piece before others, which are placed right

@@ -1,7 +1,7 @@
 -- Ways through a plan: what is said of their lines may be weakened and joined, and there is one at most.
 use Rattle.std.proofs.Common.{◌≡◌, ℕ, Bool, inl, inr, sym, ◌∙◌}
 use Rattle.frag_code.specs.Evaluation.{Tally, step_on}
-use Rattle.frag_plan.specs.Names.{Slot}
+use Rattle.cell_terms.specs.declared.term.Slot.{Slot}
 use Rattle.frag_plan.specs.Plan.{Line, Plan, line, test, exit}
 use Rattle.frag_plan.specs.Scene.{Scene, after, Along}
 

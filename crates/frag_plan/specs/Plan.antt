@@ -7,7 +7,9 @@ use Rattle.hint_source.specs.declared.kind.Kind.TheVariants as kind
 use Rattle.frag_code.specs.declared.piece.Piece.{Piece}
 use Rattle.frag_code.specs.declared.piece.Piece.TheVariants as piece
 use Rattle.frag_code.specs.Emit.{cell_of}
-use Rattle.frag_plan.specs.Names.{Slot, Term, place, resolve}
+use Rattle.cell_terms.specs.declared.term.Slot.{Slot}
+use Rattle.cell_terms.specs.declared.term.Term.{Term}
+use Rattle.cell_terms.specs.Resolving.{place, resolve}
 
 -- a line of a plan: lay a word at ap, move ap, ask for a cell's word, say that a cell has a word, check a range
 pub data Line : Type 0 where

@@ -4,7 +4,13 @@ use Rattle.felt64.specs.Field.{sum, difference, product}
 use Rattle.casm_word.specs.declared.cell_expr.CellExpr.{CellExpr}
 use Rattle.casm_steps.specs.Reading.{address, reading}
 use Rattle.frag_code.specs.Evaluation.{Tally, step_by, step_on, step_naming}
-use Rattle.frag_plan.specs.Names.{Slot, own, arg, frame, Second, slot, number, Term, whole, cell, behind, word, add, sub, mul, at_of, argument}
+use Rattle.cell_terms.specs.declared.term.Slot.{Slot}
+use Rattle.cell_terms.specs.declared.term.Slot.TheVariants as slots
+use Rattle.cell_terms.specs.declared.term.Second.{Second}
+use Rattle.cell_terms.specs.declared.term.Second.TheVariants as seconds
+use Rattle.cell_terms.specs.declared.term.Term.{Term}
+use Rattle.cell_terms.specs.declared.term.Term.TheVariants as terms
+use Rattle.cell_terms.specs.Resolving.{at_of, argument}
 use Rattle.frag_plan.specs.Plan.{Line, lay, reserve, ask, same, range, Plan, line, test, exit}
 
 -- what a plan sees: a word for each named cell, for each argument's expression and for each address
@@ -14,22 +20,22 @@ pub record Scene : Type 0 where
   pub at_address : ℕ → ℕ
 
 abbrev pub second : Scene → Second → ℕ
-second c (slot n) = c.w n
-second c (number k) = k
+second c (seconds.Slot n) = c.w n
+second c (seconds.Number k) = k
 
 -- the word of a term
 abbrev pub value : Scene → Term → ℕ
-value c (whole i) = c.expression i
-value c (cell n) = c.w n
-value c (behind n k) = c.at_address (sum (c.w n) k)
-value c (word k) = k
-value c (add n o) = sum (c.w n) (second c o)
-value c (sub n o) = difference (c.w n) (second c o)
-value c (mul n o) = product (c.w n) (second c o)
+value c (terms.Whole i) = c.expression i
+value c (terms.Cell n) = c.w n
+value c (terms.Behind n k) = c.at_address (sum (c.w n) k)
+value c (terms.Word k) = k
+value c (terms.Add n o) = sum (c.w n) (second c o)
+value c (terms.Sub n o) = difference (c.w n) (second c o)
+value c (terms.Mul n o) = product (c.w n) (second c o)
 
 -- what a line says of the words once ap has moved d cells
 abbrev pub Fact : Scene → ℕ → Line → Type 0
-Fact c d (lay t) = c.w (own d) ≡ value c t
+Fact c d (lay t) = c.w (slots.Own d) ≡ value c t
 Fact c d (reserve k) = Unit {0}
 Fact c d (ask n k) = Unit {0}
 Fact c d (same n t) = c.w n ≡ value c t
@@ -53,9 +59,9 @@ Along c jumps F G (exit j) t k end = (k ≡ j) × (end ≡ (if jumps then step_o
 
 -- the address of a named cell, ap and fp being those at the begin
 abbrev pub slot_address : (ap fp : ℕ) → List CellExpr → Slot → ℕ
-slot_address ap fp args (own k) = sum ap k
-slot_address ap fp args (arg i) = address ap fp (at_of (argument args i))
-slot_address ap fp args (frame k) = sum fp k
+slot_address ap fp args (slots.Own k) = sum ap k
+slot_address ap fp args (slots.Arg i) = address ap fp (at_of (argument args i))
+slot_address ap fp args (slots.Frame k) = sum fp k
 
 abbrev pub word_or_zero : Option ℕ → ℕ
 word_or_zero (Some w) = w
@@ -74,22 +80,22 @@ module _ (m : ℕ → Option ℕ) (ap fp : ℕ) (args : List CellExpr) (c : Scen
   SlotListed n = m (slot_address ap fp args n) ≡ Some (c.w n)
 
   abbrev pub SecondListed : Second → Type 0
-  SecondListed (slot n) = SlotListed n
-  SecondListed (number k) = Unit {0}
+  SecondListed (seconds.Slot n) = SlotListed n
+  SecondListed (seconds.Number k) = Unit {0}
 
   -- the cells of a term are listed with the words of the scene
   abbrev pub TermListed : Term → Type 0
-  TermListed (whole i) = reading m ap fp (argument args i) ≡ Some (c.expression i)
-  TermListed (cell n) = SlotListed n
-  TermListed (behind n k) = SlotListed n × (m (sum (c.w n) k) ≡ Some (c.at_address (sum (c.w n) k)))
-  TermListed (word k) = Unit {0}
-  TermListed (add n o) = SlotListed n × SecondListed o
-  TermListed (sub n o) = SlotListed n × SecondListed o
-  TermListed (mul n o) = SlotListed n × SecondListed o
+  TermListed (terms.Whole i) = reading m ap fp (argument args i) ≡ Some (c.expression i)
+  TermListed (terms.Cell n) = SlotListed n
+  TermListed (terms.Behind n k) = SlotListed n × (m (sum (c.w n) k) ≡ Some (c.at_address (sum (c.w n) k)))
+  TermListed (terms.Word k) = Unit {0}
+  TermListed (terms.Add n o) = SlotListed n × SecondListed o
+  TermListed (terms.Sub n o) = SlotListed n × SecondListed o
+  TermListed (terms.Mul n o) = SlotListed n × SecondListed o
 
   -- the cells that a line names once ap has moved d cells are listed with the words of the scene
   abbrev pub LineListed : ℕ → Line → Type 0
-  LineListed d (lay t) = SlotListed (own d) × TermListed t
+  LineListed d (lay t) = SlotListed (slots.Own d) × TermListed t
   LineListed d (reserve k) = Unit {0}
   LineListed d (ask n k) = Unit {0}
   LineListed d (same n t) = SlotListed n × TermListed t

@@ -1,0 +1,14 @@
+pub mod FewCells
+pub mod Chosen
+pub mod Fitting
+pub mod Runs
+pub mod Signatures
+pub mod Made
+pub mod Charges
+pub mod Moves
+pub mod Counts
+pub mod Shapes
+pub mod ResultCounts
+pub mod InField
+pub mod Numbers
+pub mod LastCells

@@ -1,0 +1,16 @@
+pub mod Rows
+pub mod Terms
+pub mod Marks
+pub mod Control
+pub mod Gas
+pub mod Felts
+pub mod Integers
+pub mod Data
+pub mod Arrays
+pub mod Dictionaries
+pub mod Costs
+pub mod Results
+pub mod NewCells
+pub mod Fits
+pub mod Groups
+pub mod Parts
