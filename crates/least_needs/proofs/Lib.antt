@@ -1,0 +1,15 @@
+pub mod AddedTerms
+pub mod Answering
+pub mod Bounds
+pub mod ClosedTerms
+pub mod CutNeeds
+pub mod Finding
+pub mod Going
+pub mod Layers
+pub mod LongWays
+pub mod NearestLaws
+pub mod OneAnswer
+pub mod Pigeonhole
+pub mod RankLaws
+pub mod RowLaws
+pub mod SourceLaws
