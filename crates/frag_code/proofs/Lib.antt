@@ -1,5 +1,6 @@
 pub mod Assertions
 pub mod Evaluations
+pub mod Fillings
 pub mod Follows
 pub mod Leads
 pub mod Meanings

@@ -1,10 +1,15 @@
 //! Laws of fragments and their code. A law is a function without code, whose contract says what holds.
 
 ghost use Rattle.std.specs.Prelude.{◌≡◌, ℕ, List, Option};
+ghost use Rattle.std.specs.FinMap.{get};
+ghost use Rattle.casm_word.specs.declared.flags.Flags.{Flags};
+ghost use Rattle.ro_machine.specs.declared.machine.State.{State};
+ghost use Rattle.ro_machine.specs.Cells.{Cells};
 ghost use Rattle.ro_machine.specs.Extends.{Extends};
 ghost use Rattle.frag_code.specs.declared.piece.Piece.{Piece};
 ghost use Rattle.frag_code.specs.Emit.{code_of};
 ghost use Rattle.frag_code.specs.Evaluation.{Tally, Evaluation};
+ghost use Rattle.frag_code.specs.Filling.{Gives};
 ghost use Rattle.frag_code.specs.Meaning.{IsPut, StaysOrExits, StretchesEvaluate, EvaluationsStretch};
 
 /// Steps from the first cell of a fragment's code stay in the code until they reach the exit of an evaluation.
@@ -30,4 +35,14 @@ pub fn evaluations_extend()
 /// Over the same cells a fragment has one evaluation at most.
 pub fn one_evaluation()
     ensures { (f : List Piece) (m : ℕ → Option ℕ) (ap fp k l : ℕ) (end last : Tally) → Evaluation f m ap fp k end → Evaluation f m ap fp l last → (k ≡ l) × (end ≡ last) }
+{}
+
+/// What the equation of a step gives keeps each word that was there.
+pub fn fillings_extend()
+    ensures { (f : Flags) (s : State) (m more : Cells) → Gives f s m more → Extends (get m) (get more) }
+{}
+
+/// The equation of a step gives the same cells the same words each time.
+pub fn one_filling()
+    ensures { (f : Flags) (s : State) (m more most : Cells) → Gives f s m more → Gives f s m most → more ≡ most }
 {}

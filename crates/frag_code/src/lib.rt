@@ -16,7 +16,7 @@ mod tests;
 pub use emission::{Emitted, HintAt, emit};
 pub use frag::Frag;
 pub use laws::{
-    evaluations_are_stretches, evaluations_extend, one_evaluation, steps_stay_or_exit,
-    stretches_are_evaluations,
+    evaluations_are_stretches, evaluations_extend, fillings_extend, one_evaluation, one_filling,
+    steps_stay_or_exit, stretches_are_evaluations,
 };
 pub use piece::{Ask, Piece};

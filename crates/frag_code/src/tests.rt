@@ -1,6 +1,6 @@
 //! Fragments that are emitted and run by the machine's steps over cells that the tests lay.
 
-use crate::{Emitted, Frag, Piece, emit};
+use crate::{Ask, Emitted, Frag, Piece, emit};
 use casm_word::{At, CellExpr, CellRef, Code, Reg, Side, words};
 use felt64::Felt;
 use hint_source::Kind;
@@ -42,6 +42,17 @@ const NUMBER: At = At {
     off: -5,
 };
 
+/// What the two hints of `branching` ask.
+const IS_ZERO: Ask = Kind::Less {
+    a: CellExpr::Cell(SELECTOR),
+    b: CellExpr::Imm(1),
+};
+
+const THIRD: Ask = Kind::Quotient {
+    a: CellExpr::Cell(NUMBER),
+    b: CellExpr::Imm(3),
+};
+
 fn felt(n: u64) -> Felt {
     Felt::reduce(u128::from(n))
 }
@@ -51,10 +62,7 @@ fn branching(rt: &HostRuntime) -> Result<Emitted, Fail> {
     let pieces = [
         Piece::Hint {
             cell: CellRef::ap(9),
-            ask: Kind::Less {
-                a: CellExpr::Cell(SELECTOR),
-                b: CellExpr::Imm(1),
-            },
+            ask: IS_ZERO,
         },
         Piece::IfNonZero(CellRef::fp(-3), 11),
         Piece::Let(CellExpr::Cell(NUMBER)),
@@ -77,6 +85,10 @@ fn branching(rt: &HostRuntime) -> Result<Emitted, Fail> {
             pointer: CellRef::fp(-4),
             at: 1,
             cell: CellRef::fp(-5),
+        },
+        Piece::Hint {
+            cell: CellRef::ap(5),
+            ask: THIRD,
         },
         Piece::Reserve(4),
         Piece::Exit(1),
@@ -155,9 +167,6 @@ fn run(memory: &Memory, exits: &[u64]) -> Result<(u32, State), StepFault> {
 fn each_form_runs(rt: HostRuntime) -> Result<(), Fail> {
     let e = branching(&rt)?;
     assert_eq!(rt; words(rt.alloc(), &e.code)?.len(), 27);
-    assert_eq!(rt; e.hints.len(), 1);
-    assert_eq!(rt; e.hints[0].pc, AT);
-    assert_eq!(rt; e.hints[0].cell, CellRef::ap(9));
     let rows = [
         (&WITH_ZERO[..], 10, EXITS[0], AP + 9),
         (&WITH_FIVE[..], 8, EXITS[1], AP + 4),
@@ -173,6 +182,39 @@ fn each_form_runs(rt: HostRuntime) -> Result<(), Fail> {
         assert_eq!(rt; last.ap, Felt::from(ap));
         assert_eq!(rt; last.fp, Felt::from(AP));
     }
+    Ok(())
+}
+
+/// The hints are asked at the code cells of the steps behind them, the second one 23 cells on.
+#[test]
+fn hints_have_their_places(rt: HostRuntime) -> Result<(), Fail> {
+    let hints = branching(&rt)?.hints;
+    let rows = [
+        (AT, CellRef::ap(9), IS_ZERO),
+        (AT + 23, CellRef::ap(5), THIRD),
+    ];
+    assert_eq!(rt; hints.len(), rows.len());
+    for (hint, (pc, cell, ask)) in hints.iter().zip(rows) {
+        assert_eq!(rt; hint.pc, pc);
+        assert_eq!(rt; hint.cell, cell);
+        assert_eq!(rt; hint.ask, ask);
+    }
+    Ok(())
+}
+
+/// A range check is stuck where the cell behind the pointer has another word.
+#[test]
+fn range_cells_count(rt: HostRuntime) -> Result<(), Fail> {
+    let e = branching(&rt)?;
+    let mut memory = Memory::new(rt.alloc());
+    for (i, word) in words(rt.alloc(), &e.code)?.iter().enumerate() {
+        memory.insert(felt(AT).add(felt(i as u64)), felt(*word))?;
+    }
+    for (address, word) in CELLS.iter().chain(&WITH_FIVE) {
+        let word = felt(*word).add(Felt::from(u32::from(*address == 2001)));
+        memory.insert(Felt::from(*address), word)?;
+    }
+    assert!(rt; matches!(run(&memory, &EXITS), Err(StepFault::AssertFails(..))));
     Ok(())
 }
 
