@@ -63,6 +63,14 @@ impl<A> Held<A> {
         }
     }
 
+    /// These variables with these payloads. It takes no memory.
+    pub fn from_rising(pairs: Vec<(u64, A)>) -> Held<A>
+        requires { IsRising pairs.items }
+        ensures { result ≡ pairs.items }
+    {
+        Held { pairs }
+    }
+
     /// The variables with their payloads.
     pub fn items(&self) -> &[(u64, A)]
         ensures items { result.now ≡ self.now }

@@ -1,0 +1,224 @@
+//! What a branch gives its target: ap moves, what is held is named anew, and the results are added.
+
+ghost use Rattle.std.specs.Prelude.{◌≡◌, ◌<◌, ◌≤◌, ◌+◌, ◌^◌, ◌++◌, map, length, take, drop, IfOk, IfSome, OnOk, pos, ◌-ℤ◌};
+ghost use Rattle.std.specs.List.{All};
+ghost use Rattle.type_table.specs.View.{trees_of};
+ghost use Rattle.libfunc_registry.specs.Wanted.{IsBelow};
+ghost use Rattle.libfunc_registry.specs.Fam.{fam_of};
+ghost use Rattle.casm_word.specs.Expressions as expressions;
+ghost use Rattle.cost_table.specs.Fits.{IsSignature, IsCloseExpr};
+ghost use Rattle.cost_table.specs.Results.{cells_of};
+ghost use Rattle.linear_check.specs.Statements as statements;
+ghost use Rattle.ap_refs.specs.Bounds.{IsWithin, AreWithin, most_cells, most_moved};
+ghost use Rattle.ap_refs.specs.Locals.{size_of};
+ghost use Rattle.ap_refs.specs.Moves as moving;
+ghost use Rattle.ap_refs.specs.Prepared.{widest};
+
+use crate::arguments::keep;
+use crate::cells::Cells;
+use crate::place::{Locals, Place};
+use casm_word::{At, CellExpr, Reg};
+use cell_terms::lowered;
+use cost_table::{ApChange, cost};
+use held_list::{AddFault, Held};
+use libfunc_registry::{Libfunc, Sig};
+use sierra_types::Name;
+use std::alloc::{AllocError, Global};
+use type_table::{TypeId, Types};
+
+/// More cells than any memory has.
+const TOO_MANY: u64 = 1 << 62;
+
+/// The number of cells of a value.
+pub(crate) fn size(types: &Types, t: TypeId) -> u32
+    requires { IsBelow types.now t }
+    ensures { result ≡ size_of types.now t }
+{
+    types.info(t).size
+}
+
+/// The number of cells that values of these types take together, if so many can be stored.
+pub(crate) fn count_cells(types: &Types, list: &[TypeId]) -> Option<u64>
+    requires { All (IsBelow types.now) list.now }
+    ensures { IfSome result (λ cells. (cells ≡ cells_of (trees_of types.now list.now)) × (cells < most_cells)) }
+{
+    let mut cells: u64 = 0;
+    for t in list {
+        if cells >= TOO_MANY {
+            return None;
+        }
+        cells += u64::from(size(types, *t));
+    }
+    if cells < TOO_MANY { Some(cells) } else { None }
+}
+
+/// How far a branch moves ap, and none where nobody knows.
+pub(crate) fn change(types: &Types, sig: &Sig, amount: u64, branch: usize) -> Option<u64>
+    requires signature { IsSignature types.now sig.now }
+    requires branch { branch < length sig.now.branches }
+    ensures { result ≡ moving.change types.now sig.now.libfunc amount branch }
+{
+    match sig.libfunc {
+        Libfunc::FinalizeLocals => Some(amount),
+        Libfunc::DisableApTracking => None,
+        _ => match cost(types, sig, branch).ap {
+            ApChange::Known(n) => Some(u64::from(n)),
+            ApChange::Unknown => None,
+        },
+    }
+}
+
+/// How far ap is from where it was at the function's begin, once it has moved.
+pub(crate) fn further(ap: Option<u64>, moved: Option<u64>) -> Option<u64>
+    requires ap { IfSome ap (λ a. a < 2 ^ 62) }
+    requires moved { IfSome moved (λ n. n < 2 ^ 62) }
+    ensures { result ≡ moving.further ap moved }
+{
+    match (ap, moved) {
+        (Some(ap), Some(moved)) => Some(ap + moved),
+        _ => None,
+    }
+}
+
+/// The same variables with the same cells.
+pub(crate) fn copy(held: &Held<Cells>) -> Result<Held<Cells>, AllocError>
+    ensures { IfOk result (λ copied. copied ≡ held.now) }
+{
+    held.clone()
+}
+
+/// The same cells, named after ap moved up by `by` cells.
+fn lower_cells(alloc: Global, by: u64, cells: &[CellExpr]) -> Result<Cells, AllocError>
+    requires near { by ≤ most_moved }
+    requires within { All (IsWithin widest) cells.now }
+    ensures { IfOk result (λ made. made ≡ map (expressions.lowered by) cells.now) }
+{
+    let mut made = Cells::new(alloc);
+    for cell in cells {
+        made.push(lowered(*cell, by))?;
+    }
+    Ok(made)
+}
+
+/// What is held, named after ap moved up by `by` cells.
+pub(crate) fn lower_all(
+    alloc: Global,
+    by: u64,
+    held: &Held<Cells>,
+) -> Result<Held<Cells>, AllocError>
+    requires near { by ≤ most_moved }
+    requires within { AreWithin widest held.now }
+    ensures { IfOk result (λ made. made ≡ moving.lowered_all by held.now) }
+{
+    let items = held.items();
+    let mut pairs = Vec::with_capacity(alloc, items.len())?;
+    for pair in items {
+        let cells = lower_cells(alloc, by, pair.1.items())?;
+        keep(&mut pairs, (pair.0, cells))?;
+    }
+    Ok(Held::from_rising(pairs))
+}
+
+/// Adds a variable, if it isn't held.
+fn add_one(variable: u64, cells: Cells, held: &mut Held<Cells>) -> Result<(), AllocError>
+    ensures { OnOk result (held.new ≡ moving.added_one variable cells held.old) }
+{
+    match held.add(variable, cells) {
+        Ok(()) => Ok(()),
+        Err(AddFault::Taken) => Ok(()),
+        Err(AddFault::Memory) => Err(AllocError),
+    }
+}
+
+/// Adds variables of these types with these cells, each taking as many as its type says.
+pub(crate) fn add_all(
+    alloc: Global,
+    types: &Types,
+    variables: &[u64],
+    kinds: &[TypeId],
+    cells: &[CellExpr],
+    held: &mut Held<Cells>,
+) -> Result<(), AllocError>
+    requires { All (IsBelow types.now) kinds.now }
+    ensures { OnOk result (held.new ≡ moving.added types.now variables.now kinds.now cells.now held.old) }
+{
+    let (mut variables, mut kinds, mut cells) = (variables, kinds, cells);
+    while let [variable, later @ ..] = variables {
+        let [kind, others @ ..] = kinds else {
+            return Ok(());
+        };
+        let (own, rest) = cut(size(types, *kind) as usize, cells);
+        add_one(*variable, Cells::from_slice(alloc, own)?, held)?;
+        (variables, kinds, cells) = (later, others, rest);
+    }
+    Ok(())
+}
+
+/// So many cells, and those behind them.
+fn cut(count: usize, cells: &[CellExpr]) -> (&[CellExpr], &[CellExpr])
+    ensures own { result.0.now ≡ take count cells.now }
+    ensures rest { result.1.now ≡ drop count cells.now }
+{
+    cells.split_at(count.min(cells.len()))
+}
+
+/// The argument cell of this number of a function that has so many.
+fn argument_cell(count: u64, k: u64) -> CellExpr
+    requires few { count < most_cells }
+    requires one { k < count }
+    ensures { result ≡ moving.argument_cell count k }
+{
+    CellExpr::Cell(At {
+        base: Reg::Fp,
+        off: k as i64 - (count + 2) as i64,
+    })
+}
+
+/// The argument cells of a function that has so many.
+fn argument_cells(alloc: Global, count: u64) -> Result<Vec<CellExpr>, AllocError>
+    requires { count < most_cells }
+    ensures { IfOk result (λ cells. cells.items ≡ moving.argument_cells count) }
+{
+    let mut cells = Vec::new(alloc);
+    for k in 0..count {
+        keep(&mut cells, argument_cell(count, k))?;
+    }
+    Ok(cells)
+}
+
+/// The variables of parameters.
+fn variables_of(alloc: Global, params: &[(u64, Name)]) -> Result<Vec<u64>, AllocError>
+    ensures { IfOk result (λ vs. vs.items ≡ map (λ x. x.0) params.now) }
+{
+    let mut variables = Vec::with_capacity(alloc, params.len())?;
+    let mut params = params;
+    while let [param, later @ ..] = params {
+        keep(&mut variables, param.0)?;
+        params = later;
+    }
+    Ok(variables)
+}
+
+/// What is known where a function with these parameters, of these types, begins.
+pub(crate) fn beginning(
+    alloc: Global,
+    types: &Types,
+    params: &[(u64, Name)],
+    kinds: &[TypeId],
+) -> Result<Place, AllocError>
+    requires { All (IsBelow types.now) kinds.now }
+    ensures { IfOk result (λ place. place ≡ moving.beginning types.now (map (λ x. x.0) params.now) kinds.now) }
+{
+    let Some(count) = count_cells(types, kinds) else {
+        return Err(AllocError);
+    };
+    let variables = variables_of(alloc, params)?;
+    let cells = argument_cells(alloc, count)?;
+    let mut held = Held::new(alloc);
+    add_all(alloc, types, &variables, kinds, &cells, &mut held)?;
+    Ok(Place {
+        cells: held,
+        ap: Some(0),
+        locals: Locals::Before,
+    })
+}
