@@ -1,5 +1,5 @@
 -- What a program passes before anything of it is run or compiled, and its first refusal.
-use Rattle.std.specs.Prelude.{List}
+use Rattle.std.specs.Prelude.{◌≡◌, ℕ, List, Ok, Err}
 use Rattle.sierra_types.specs.declared.program.Program.{Program}
 use Rattle.type_table.specs.View.{TypesView}
 use Rattle.type_table.specs.Table.{HasTypes}
@@ -7,28 +7,39 @@ use Rattle.type_table.specs.Refusals as types
 use Rattle.libfunc_registry.specs.Signature.{HasSignatures}
 use Rattle.libfunc_registry.specs.Refusals as libfuncs
 use Rattle.libfunc_registry.specs.declared.sig.Sig.{Sig}
-use Rattle.linear_check.specs.Typed.{Typed}
+use Rattle.linear_check.specs.Typed.{TypedList}
 use Rattle.linear_check.specs.FirstFault as statements
+use Rattle.entry_check.specs.Entry.{entry_of}
+use Rattle.ap_refs.specs.Prepared.{IsTypedProgram}
+use Rattle.ap_refs.specs.Placed.{Placed}
+use Rattle.ap_refs.specs.FirstFault as places
 use Rattle.program_checks.specs.declared.checking.Checked.{Checked}
 use Rattle.program_checks.specs.declared.refusal.Refusal.{Refusal}
 use Rattle.program_checks.specs.declared.refusal.Refusal.TheVariants as refusals
 
--- the program has these types and functions, its libfuncs these signatures, and its statements these functions and variables
+-- The program has these types and functions, its libfuncs these signatures, and its statements these functions and
+-- variables; this function is main, and the variables have these places.
 abbrev pub Finds : Program → Checked → Type 0
 Finds program checked =
-    HasTypes program checked.types × HasSignatures checked.types program.libfuncs checked.signatures
-    × Typed program checked.types checked.signatures checked.envs
+    IsTypedProgram program checked.types checked.signatures checked.envs
+    × (entry_of program checked.types ≡ Ok checked.main)
+    × Placed program checked.types checked.signatures checked.places
 
 -- the program passes the checks
 abbrev pub Passes : Program → Type 0
 Passes program = (checked : Checked) × Finds program checked
 
--- The first refusal, in the order of compiling: types and functions; where these are not refused, libfuncs; and where these
--- have signatures, statements. Out of memory is no refusal.
+-- The first refusal, in the order of compiling: types and functions; where these are not refused, libfuncs; where these have
+-- signatures, statements; where these are typed, main; and where main is known, places. Out of memory is no refusal.
 abbrev pub Refused : Program → Refusal → Type 0
 Refused program (refusals.Types fault) = types.FirstFault program fault
 Refused program (refusals.Libfuncs fault) = (types : TypesView) × HasTypes program types × libfuncs.FirstFault types program.libfuncs fault
 Refused program (refusals.Statements fault) =
     (types : TypesView) × (signatures : List Sig) × HasTypes program types × HasSignatures types program.libfuncs signatures
     × statements.FirstFault program types signatures fault
+Refused program (refusals.Entry fault) =
+    (types : TypesView) × (signatures : List Sig) × (envs : TypedList) × IsTypedProgram program types signatures envs × (entry_of program types ≡ Err fault)
+Refused program (refusals.Places fault) =
+    (types : TypesView) × (signatures : List Sig) × (envs : TypedList) × (main : ℕ) × IsTypedProgram program types signatures envs
+    × (entry_of program types ≡ Ok main) × places.FirstFault program types signatures fault
 Refused program refusals.Memory = ⊥

@@ -1,6 +1,6 @@
 -- The lines of refused programs: a code, and the name of a type, a libfunc or a function, or the numbers of a statement and
 -- of a variable.
-use Rattle.std.specs.Prelude.{ℕ, ◌++◌, List, [], ◌∷◌, codes, decimal}
+use Rattle.std.specs.Prelude.{ℕ, ◌++◌, List, [], ◌∷◌, Option, Some, None, codes, decimal}
 use Rattle.std.specs.List.{concat}
 use Rattle.type_table.specs.declared.fault.TypeFault.{TypeFault}
 use Rattle.type_table.specs.declared.fault.TypeFault.TheVariants as type_faults
@@ -8,6 +8,10 @@ use Rattle.libfunc_registry.specs.declared.sig.SigFault.{SigFault}
 use Rattle.libfunc_registry.specs.declared.sig.SigFault.TheVariants as libfunc_faults
 use Rattle.linear_check.specs.declared.fault.LinearFault.{LinearFault}
 use Rattle.linear_check.specs.declared.fault.LinearFault.TheVariants as linear_faults
+use Rattle.entry_check.specs.declared.fault.EntryFault.{EntryFault}
+use Rattle.entry_check.specs.declared.fault.EntryFault.TheVariants as entry_faults
+use Rattle.ap_refs.specs.declared.fault.RefFault.{RefFault}
+use Rattle.ap_refs.specs.declared.fault.RefFault.TheVariants as place_faults
 use Rattle.program_checks.specs.declared.refusal.Refusal.{Refusal}
 use Rattle.program_checks.specs.declared.refusal.Refusal.TheVariants as refusals
 
@@ -50,9 +54,29 @@ linear_fault_line (linear_faults.Unreachable s) = statement_line (codes "P27") s
 linear_fault_line (linear_faults.Shape s) = statement_line (codes "P28") s
 linear_fault_line linear_faults.Memory = []
 
+abbrev pub entry_fault_line : EntryFault → List ℕ
+entry_fault_line (entry_faults.EntryType position) = statement_line (codes "P50") position
+entry_fault_line entry_faults.NoMain = codes "P51\n"
+
+-- a merge at which no variable differs, but the change of ap or the local state does, has `-` in its place
+abbrev pub merge_line : ℕ → Option ℕ → List ℕ
+merge_line s (Some v) = variable_line (codes "P24") s v
+merge_line s None = concat (codes "P24 " ∷ decimal s ∷ codes " -\n" ∷ [])
+
+abbrev pub place_fault_line : RefFault → List ℕ
+place_fault_line (place_faults.MergeDiffers s v) = merge_line s v
+place_fault_line (place_faults.NotOnStack s v) = variable_line (codes "P30") s v
+place_fault_line (place_faults.NotPlain s v) = variable_line (codes "P31") s v
+place_fault_line (place_faults.Dangling s v) = variable_line (codes "P32") s v
+place_fault_line (place_faults.OffsetTooFar s v) = variable_line (codes "P33") s v
+place_fault_line (place_faults.LocalRule s) = statement_line (codes "P34") s
+place_fault_line place_faults.Memory = []
+
 -- the line of a refusal; out of memory has none
 abbrev pub refusal_line : Refusal → List ℕ
 refusal_line (refusals.Types fault) = type_fault_line fault
 refusal_line (refusals.Libfuncs fault) = libfunc_fault_line fault
 refusal_line (refusals.Statements fault) = linear_fault_line fault
+refusal_line (refusals.Entry fault) = entry_fault_line fault
+refusal_line (refusals.Places fault) = place_fault_line fault
 refusal_line refusals.Memory = []

@@ -1,13 +1,18 @@
 //! The checks in their order.
 
-ghost use Rattle.std.specs.Prelude.{◌≢◌, IfOk, IfErr};
+ghost use Rattle.std.specs.Prelude.{◌≡◌, ◌≢◌, ℕ, ◌≤◌, ◌^◌, length, Ok, IfOk, IfErr};
 ghost use Rattle.type_table.specs.Table.{HasTypes};
 ghost use Rattle.libfunc_registry.specs.Signature.{HasSignatures};
 ghost use Rattle.linear_check.specs.Typed.{Typed};
+ghost use Rattle.entry_check.specs.Entry.{entry_of};
+ghost use Rattle.ap_refs.specs.Prepared.{IsTypedProgram};
+ghost use Rattle.ap_refs.specs.Placed.{Placed};
 ghost use Rattle.program_checks.specs.Checks.{Finds, Refused};
 ghost use Rattle.program_checks.specs.declared.refusal.Refusal.TheVariants as refusals;
 
 use crate::refusal::Refusal;
+use ap_refs::{Places, RefFault, places};
+use entry_check::check_entry;
 use libfunc_registry::{Sig, SigFault, signatures};
 use linear_check::{Envs, LinearFault, annotate};
 use sierra_types::{List, Program};
@@ -23,20 +28,32 @@ pub struct Checked {
     pub signatures: List<Sig>,
     /// The function and the typed variables of each statement.
     pub envs: Envs,
+    /// The position of main, where a run begins.
+    pub main: usize,
+    /// The places of each statement's variables.
+    pub places: Places,
 }
 
-/// What the checks find of a program, or its first refusal.
+/// What the checks find of a program, which has at most `2^20` statements, or its first refusal.
 pub fn check(alloc: Global, program: &Program) -> Result<Checked, Refusal>
+    requires { length program.now.statements ≤ 2 ^ 20 }
     ensures passes { IfOk result (λ checked. Finds program.now checked) }
     ensures refused { IfErr result (λ refusal. refusal ≢ refusals.Memory → Refused program.now refusal) }
 {
     let types = check_types(alloc, program)?;
     let signatures = check_libfuncs(alloc, program, &types)?;
     let envs = check_statements(alloc, program, &types, signatures.items())?;
+    let main = match check_entry(program, &types) {
+        Ok(main) => main,
+        Err(fault) => return Err(Refusal::Entry(fault)),
+    };
+    let places = check_places(alloc, program, &types, signatures.items(), &envs)?;
     Ok(Checked {
         types,
         signatures,
         envs,
+        main,
+        places,
     })
 }
 
@@ -81,5 +98,25 @@ fn check_statements(
         Ok(envs) => Ok(envs),
         Err(LinearFault::Memory) => Err(Refusal::Memory),
         Err(fault) => Err(Refusal::Statements(fault)),
+    }
+}
+
+/// The places of its variables, where main is known.
+fn check_places(
+    alloc: Global,
+    program: &Program,
+    types: &Types,
+    sigs: &[Sig],
+    envs: &Envs,
+) -> Result<Places, Refusal>
+    requires typed { IsTypedProgram program.now types.now sigs.now envs.now }
+    requires main { (main : ℕ) × (entry_of program.now types.now ≡ Ok main) }
+    ensures passes { IfOk result (Placed program.now types.now sigs.now) }
+    ensures refused { IfErr result (λ refusal. refusal ≢ refusals.Memory → Refused program.now refusal) }
+{
+    match places(alloc, program, types, sigs, envs) {
+        Ok(places) => Ok(places),
+        Err(RefFault::Memory) => Err(Refusal::Memory),
+        Err(fault) => Err(Refusal::Places(fault)),
     }
 }

@@ -1,6 +1,6 @@
 //! Laws of the checks. A law is a function without code, whose contract says what holds.
 
-ghost use Rattle.std.specs.Prelude.{◌≡◌};
+ghost use Rattle.std.specs.Prelude.{◌≡◌, ◌≤◌, ◌^◌, length};
 ghost use Rattle.sierra_types.specs.declared.program.Program.{Program};
 ghost use Rattle.program_checks.specs.declared.refusal.Refusal.{Refusal};
 ghost use Rattle.program_checks.specs.Checks.{Passes, Refused};
@@ -10,8 +10,9 @@ pub fn one_refusal()
     ensures { (program : Program) (a b : Refusal) → Refused program a → Refused program b → a ≡ b }
 {}
 
-/// It cannot be that a program neither passes the checks nor is refused, and no program does both.
+/// It cannot be that a program of at most `2^20` statements neither passes the checks nor is refused, and no program does
+/// both.
 pub fn passes_or_refused()
-    ensures either { (program : Program) → (Passes program → ⊥) → ((refusal : Refusal) → Refused program refusal → ⊥) → ⊥ }
+    ensures either { (program : Program) → length program.statements ≤ 2 ^ 20 → (Passes program → ⊥) → ((refusal : Refusal) → Refused program refusal → ⊥) → ⊥ }
     ensures not_both { (program : Program) (refusal : Refusal) → Refused program refusal → Passes program → ⊥ }
 {}

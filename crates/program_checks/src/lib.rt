@@ -1,5 +1,6 @@
 //! What a program's tree has to pass before anything of it is run, compiled or evaluated, in the order of compiling: its
-//! types and functions, then the signatures of its libfuncs, and then its statements, which have to be linearly typed.
+//! types and functions, then the signatures of its libfuncs, then its statements, which have to be linearly typed, then main, and then the
+//! places of its variables.
 //!
 //! A tree comes in, and what the checks found goes out, or the first refusal, whose line is printed here. The tool calls
 //! it for each command that does more with a program than read it.

@@ -1,9 +1,11 @@
 //! The line of a refused program: a code, and the name or the numbers that it is about.
 
 ghost use Rattle.std.specs.Prelude.{◌≡◌, IfOk, codes, string_bytes};
-ghost use Rattle.program_checks.specs.Lines.{refusal_line, type_fault_line, libfunc_fault_line, linear_fault_line, name_line};
+ghost use Rattle.program_checks.specs.Lines.{refusal_line, type_fault_line, libfunc_fault_line, linear_fault_line, entry_fault_line, place_fault_line, name_line};
 
 use crate::refusal::Refusal;
+use ap_refs::RefFault;
+use entry_check::EntryFault;
 use libfunc_registry::SigFault;
 use linear_check::LinearFault;
 use sierra_types::Name;
@@ -18,6 +20,8 @@ pub fn refusal_line(alloc: Global, refusal: &Refusal) -> Result<Vec<u8>, AllocEr
         Refusal::Types(fault) => type_fault_line(alloc, fault),
         Refusal::Libfuncs(fault) => libfunc_fault_line(alloc, fault),
         Refusal::Statements(fault) => Ok(linear_fault_line(alloc, *fault)?.into_bytes()),
+        Refusal::Entry(fault) => Ok(entry_fault_line(alloc, *fault)?.into_bytes()),
+        Refusal::Places(fault) => Ok(place_fault_line(alloc, *fault)?.into_bytes()),
         Refusal::Memory => Ok(Vec::new(alloc)),
     }
 }
@@ -80,6 +84,50 @@ fn linear_fault_line(alloc: Global, fault: LinearFault) -> Result<String, AllocE
         LinearFault::Unreachable { statement } => format!(in alloc; "P27 {statement}\n"),
         LinearFault::Shape { statement } => format!(in alloc; "P28 {statement}\n"),
         LinearFault::Memory => Ok(String::new(alloc)),
+    }
+}
+
+/// The line of a program without a main, or with one that has another type.
+fn entry_fault_line(alloc: Global, fault: EntryFault) -> Result<String, AllocError>
+    ensures { IfOk result (λ line. string_bytes line ≡ entry_fault_line fault) }
+{
+    match fault {
+        EntryFault::EntryType(position) => format!(in alloc; "P50 {position}\n"),
+        EntryFault::NoMain => String::from_str(alloc, "P51\n"),
+    }
+}
+
+/// The line of a statement without places.
+fn place_fault_line(alloc: Global, fault: RefFault) -> Result<String, AllocError>
+    ensures { IfOk result (λ line. string_bytes line ≡ place_fault_line fault) }
+{
+    match fault {
+        RefFault::MergeDiffers {
+            statement,
+            variable: Some(variable),
+        } => format!(in alloc; "P24 {statement} {variable}\n"),
+        RefFault::MergeDiffers {
+            statement,
+            variable: None,
+        } => format!(in alloc; "P24 {statement} -\n"),
+        RefFault::NotOnStack {
+            statement,
+            variable,
+        } => format!(in alloc; "P30 {statement} {variable}\n"),
+        RefFault::NotPlain {
+            statement,
+            variable,
+        } => format!(in alloc; "P31 {statement} {variable}\n"),
+        RefFault::Dangling {
+            statement,
+            variable,
+        } => format!(in alloc; "P32 {statement} {variable}\n"),
+        RefFault::OffsetTooFar {
+            statement,
+            variable,
+        } => format!(in alloc; "P33 {statement} {variable}\n"),
+        RefFault::LocalRule { statement } => format!(in alloc; "P34 {statement}\n"),
+        RefFault::Memory => Ok(String::new(alloc)),
     }
 }
 

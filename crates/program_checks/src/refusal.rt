@@ -1,5 +1,7 @@
 //! Why a program is refused.
 
+use ap_refs::RefFault;
+use entry_check::EntryFault;
 use libfunc_registry::SigFault;
 use linear_check::LinearFault;
 use thiserror::Error;
@@ -18,6 +20,12 @@ pub enum Refusal {
     /// A statement is refused by the linear check.
     #[error("{0}")]
     Statements(LinearFault),
+    /// No function is main, or main has a type that a run can't be given or show.
+    #[error("{0}")]
+    Entry(EntryFault),
+    /// A statement has no places.
+    #[error("{0}")]
+    Places(RefFault),
     /// There was no memory.
     #[error("out of memory")]
     Memory,

@@ -1,9 +1,12 @@
 //! Programs that pass or are refused, each with its line.
 
 use crate::{Refusal, check, refusal_line};
+use ap_refs::RefFault;
+use entry_check::EntryFault;
 use linear_check::LinearFault;
-use sierra_types::{LibfuncDecl, List, Name, Program, Statement, TypeDecl};
+use sierra_types::{Function, LibfuncDecl, List, Name, Program, Statement, TypeDecl};
 use std::alloc::{AllocError, Global};
+use std::process::Abort;
 use std::test::Fail;
 
 /// The program of one type and one libfunc without arguments, each under its own generic name, and of these statements.
@@ -33,10 +36,11 @@ fn program(
 }
 
 /// The line of a program's refusal, empty where it passes.
-fn line(alloc: Global, program: &Program) -> Result<Vec<u8>, AllocError> {
+fn line(rt: &impl Abort, alloc: Global, program: &Program) -> Result<Vec<u8>, Fail> {
+    assert!(rt; program.statements.items().len() <= 1_048_576);
     match check(alloc, program) {
         Ok(_) => Ok(Vec::new(alloc)),
-        Err(refusal) => refusal_line(alloc, &refusal),
+        Err(refusal) => Ok(refusal_line(alloc, &refusal)?),
     }
 }
 
@@ -44,24 +48,40 @@ fn line(alloc: Global, program: &Program) -> Result<Vec<u8>, AllocError> {
 fn refuses_programs_by_their_lines(rt: HostRuntime) -> Result<(), Fail> {
     let alloc = rt.alloc();
     let rows: [(&[u8], &[u8], &[u8]); 4] = [
-        (b"felt64", b"felt64_add", b""),
+        (b"felt64", b"felt64_add", b"P51\n"),
         (b"felt252", b"felt64_div", b"P10 felt252\n"),
         (b"felt64", b"felt64_div", b"P11 felt64_div\n"),
         (b"felt64", b"dup", b"P12 dup\n"),
     ];
     for (of_type, of_libfunc, expected) in rows {
-        let line = line(
-            alloc,
-            &program(alloc, of_type, of_libfunc, Vec::new(alloc))?,
-        )?;
-        assert_eq!(rt; line.as_slice(), expected);
+        let program = program(alloc, of_type, of_libfunc, Vec::new(alloc))?;
+        assert_eq!(rt; line(&rt, alloc, &program)?.as_slice(), expected);
     }
+    Ok(())
+}
+
+/// A main that returns nothing at once passes all checks.
+#[test]
+fn a_program_passes(rt: HostRuntime) -> Result<(), Fail> {
+    let alloc = rt.alloc();
+    let answers = Statement::Return {
+        args: List::new(Vec::new(alloc)),
+    };
+    let mut program = program(alloc, b"felt64", b"felt64_add", vec![in alloc; answers]?)?;
+    let main = Function {
+        id: Name::new(alloc, b"main")?,
+        entry: 0,
+        params: List::new(Vec::new(alloc)),
+        results: List::new(Vec::new(alloc)),
+    };
+    program.functions = List::new(vec![in alloc; main]?);
+    assert_eq!(rt; line(&rt, alloc, &program)?.as_slice(), b"".as_slice());
     Ok(())
 }
 
 /// A `return` that no function has is refused behind types and libfuncs.
 #[test]
-fn statements_are_checked_last(rt: HostRuntime) -> Result<(), Fail> {
+fn statements_are_checked_behind_libfuncs(rt: HostRuntime) -> Result<(), Fail> {
     let alloc = rt.alloc();
     let rows: [(&[u8], &[u8], &[u8]); 3] = [
         (b"felt64", b"felt64_add", b"P27 0\n"),
@@ -73,7 +93,7 @@ fn statements_are_checked_last(rt: HostRuntime) -> Result<(), Fail> {
             args: List::new(Vec::new(alloc)),
         };
         let program = program(alloc, of_type, of_libfunc, vec![in alloc; answers]?)?;
-        assert_eq!(rt; line(alloc, &program)?.as_slice(), expected);
+        assert_eq!(rt; line(&rt, alloc, &program)?.as_slice(), expected);
     }
     Ok(())
 }
@@ -125,6 +145,74 @@ fn statements_have_lines(rt: HostRuntime) -> Result<(), Fail> {
     for (fault, expected) in rows {
         let line = refusal_line(rt.alloc(), &Refusal::Statements(fault))?;
         assert_eq!(rt; line.as_slice(), expected);
+    }
+    Ok(())
+}
+
+#[test]
+fn entries_and_places_have_lines(rt: HostRuntime) -> Result<(), Fail> {
+    let alloc = rt.alloc();
+    let (statement, variable) = (7, 12);
+    let entries: [(EntryFault, &[u8]); 2] = [
+        (EntryFault::EntryType(3), b"P50 3\n"),
+        (EntryFault::NoMain, b"P51\n"),
+    ];
+    for (fault, expected) in entries {
+        assert_eq!(rt;
+            refusal_line(alloc, &Refusal::Entry(fault))?.as_slice(),
+            expected
+        );
+    }
+    let places: [(RefFault, &[u8]); 7] = [
+        (
+            RefFault::MergeDiffers {
+                statement,
+                variable: Some(variable),
+            },
+            b"P24 7 12\n",
+        ),
+        (
+            RefFault::MergeDiffers {
+                statement,
+                variable: None,
+            },
+            b"P24 7 -\n",
+        ),
+        (
+            RefFault::NotOnStack {
+                statement,
+                variable,
+            },
+            b"P30 7 12\n",
+        ),
+        (
+            RefFault::NotPlain {
+                statement,
+                variable,
+            },
+            b"P31 7 12\n",
+        ),
+        (
+            RefFault::Dangling {
+                statement,
+                variable,
+            },
+            b"P32 7 12\n",
+        ),
+        (
+            RefFault::OffsetTooFar {
+                statement,
+                variable,
+            },
+            b"P33 7 12\n",
+        ),
+        (RefFault::LocalRule { statement }, b"P34 7\n"),
+    ];
+    for (fault, expected) in places {
+        assert_eq!(rt;
+            refusal_line(alloc, &Refusal::Places(fault))?.as_slice(),
+            expected
+        );
     }
     Ok(())
 }

@@ -426,7 +426,7 @@ module _ (command : Command) (readings : SourceReadings)
 
     -- .. its program is refused, or of no form that is built, or it can be run, ..
     no_program : IsRead command sources.Program → IsRead command sources.Input → ((program : Program) (input : Input) → CanRun readings program input → ⊥) → ⊥
-    no_program reads reads_input more = no_tree reads (λ tree text is within sierra. passes_or_refused tree
+    no_program reads reads_input more = no_tree reads (λ tree text is within sierra. passes_or_refused tree sierra.1.statements
         (λ passes. none answers.NotBuilt
         (inr (inl (reads_compiled command reads_input, (text, is, within, (tree, (sierra, passes), λ program is_program. no_input reads_input more program (text, is, within, (tree, (sierra, passes), is_program))))))))
         (λ refusal refused. none (answers.ProgramRefused refusal) (reads_compiled command reads_input, (text, is, within, (tree, sierra, refused)))))

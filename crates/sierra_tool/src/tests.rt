@@ -350,7 +350,10 @@ fn refuses_what_cannot_be_run(rt: HostRuntime) -> Result<(), Fail> {
         b"type felt64 = felt64;libfunc felt64_div = felt64_div;return();main@0() -> ();";
     let used_twice = b"type felt64 = felt64;libfunc drop<felt64> = drop<felt64>;\
         drop<felt64>([0]) -> ();drop<felt64>([0]) -> ();return();main@0([0]: felt64) -> ();";
-    let rows: [(&[u8], &[u8], u8, &[u8]); 6] = [
+    let not_on_top = b"type felt64 = felt64;return([0]);main@0([0]: felt64) -> (felt64);";
+    let rows: [(&[u8], &[u8], u8, &[u8]); 8] = [
+        (b"return();f@0() -> ();", INPUT, 11, b"P51\n"),
+        (not_on_top, INPUT, 11, b"P30 0 0\n"),
         (UNKNOWN, INPUT, 11, b"P10 felt252\n"),
         (unknown_libfunc, INPUT, 11, b"P11 felt64_div\n"),
         (used_twice, INPUT, 11, b"P20 1 0\n"),
@@ -519,7 +522,7 @@ fn answers_a_program_that_is_too_long(rt: HostRuntime) -> Result<(), Fail> {
 fn reads_no_file_that_is_not_needed(rt: HostRuntime) -> Result<(), Fail> {
     let alloc = rt.alloc();
     let (program, input) = (Some(PROGRAM), Some(INPUT));
-    let rows: [(&[&str], [Option<&[u8]>; 3], u8, u64); 9] = [
+    let rows: [(&[&str], [Option<&[u8]>; 3], u8, u64); 10] = [
         (&["table", "p"], [program, None, None], 2, 0),
         (&["compile", "p"], [program, None, None], 9, 0),
         (&["show", "p"], [program, None, None], 0, 2),
@@ -527,7 +530,13 @@ fn reads_no_file_that_is_not_needed(rt: HostRuntime) -> Result<(), Fail> {
         (&["asm", "p"], [Some(b"ret;"), None, None], 0, 2),
         (&["run", "p", "i"], [program, input, None], 0, 4),
         (&["run", "p", "i"], [Some(b"type"), input, None], 10, 2),
-        (&CHECK, [Some(b""), input, None], 9, 1),
+        (&CHECK, [Some(b""), input, None], 11, 1),
+        (
+            &CHECK,
+            [Some(b"return();main@0() -> ();"), input, None],
+            9,
+            2,
+        ),
         (&CHECK, [program, Some(b"gas 299\n5\n"), None], 13, 4),
     ];
     for (arguments, given, status, calls) in rows {

@@ -5,6 +5,7 @@ ghost use Rattle.std.specs.Prelude.{◌≡◌, ◌↔◌, Some, IfOk};
 ghost use Rattle.first_form.specs.Forms.{IsProgram, IsInput};
 ghost use Rattle.sierra_text.specs.AsciiNames.{HasAsciiNames};
 ghost use Rattle.sierra_text.specs.Layout.{layout};
+ghost use Rattle.sierra_text.specs.Refusals.{IsShort};
 ghost use Rattle.sierra_tool.specs.Causes.{Holds, IsTree, IsOfForm};
 ghost use Rattle.sierra_tool.specs.Command.{IsRead};
 ghost use Rattle.sierra_tool.specs.Stages.{ReadsSource, IsFound, IsUnfit, IsRefused, PassesChecks, NoTree, NoProgram, NoInput, Starts};
@@ -97,6 +98,7 @@ fn program<F: Files>(alloc: Global, files: &mut F, name: &str) -> Result<Program
 
 /// Stops with the first refusal of a program, if it has one.
 fn pass_checks(alloc: Global, tree: &sierra_types::Program) -> Result<(), Stop>
+    requires { IsShort tree.now }
     ensures { PassesChecks tree.now result }
 {
     match check(alloc, tree) {
