@@ -1,0 +1,16 @@
+mod Answering
+mod Balanced
+mod ClosedTerms
+mod EdgeLaws
+mod EquationLaws
+mod Families
+mod FreeTerms
+mod HeldCounts
+mod Knowing
+mod Lines
+mod Listing
+mod OneAnswer
+mod OneText
+mod Paid
+mod Suiting
+mod WrittenKinds

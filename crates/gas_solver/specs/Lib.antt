@@ -1,0 +1,10 @@
+pub mod Accepting
+pub mod Balance
+pub mod Edges
+pub mod Equations
+pub mod Faults
+pub mod Known
+pub mod Paying
+pub mod Plans
+pub mod Printing
+pub mod Terms
