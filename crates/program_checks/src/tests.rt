@@ -79,6 +79,33 @@ fn a_program_passes(rt: HostRuntime) -> Result<(), Fail> {
     Ok(())
 }
 
+/// Main comes behind linear typing, and places behind main. The one function answers its parameter where it stands, which is
+/// not on top of the stack.
+#[test]
+fn checks_come_in_order(rt: HostRuntime) -> Result<(), Fail> {
+    let alloc = rt.alloc();
+    let rows: [(&[u8], u64, &[u8]); 3] = [
+        (b"f", 7, b"P20 0 7\n"),
+        (b"f", 0, b"P51\n"),
+        (b"main", 0, b"P30 0 0\n"),
+    ];
+    for (name, answer, expected) in rows {
+        let answers = Statement::Return {
+            args: List::new(vec![in alloc; answer]?),
+        };
+        let mut program = program(alloc, b"felt64", b"felt64_add", vec![in alloc; answers]?)?;
+        let only = Function {
+            id: Name::new(alloc, name)?,
+            entry: 0,
+            params: List::new(vec![in alloc; (0, Name::new(alloc, b"felt64")?)]?),
+            results: List::new(vec![in alloc; Name::new(alloc, b"felt64")?]?),
+        };
+        program.functions = List::new(vec![in alloc; only]?);
+        assert_eq!(rt; line(&rt, alloc, &program)?.as_slice(), expected);
+    }
+    Ok(())
+}
+
 /// A `return` that no function has is refused behind types and libfuncs.
 #[test]
 fn statements_are_checked_behind_libfuncs(rt: HostRuntime) -> Result<(), Fail> {
