@@ -14,6 +14,3 @@ pub use assembling::assemble;
 pub use fault::{AsmFault, NumberKind};
 pub use laws::{code_or_refusal, one_code, one_refusal, printed_is_text};
 pub use printing::print;
-
-#[cfg(test)]
-mod tests;

@@ -20,8 +20,6 @@ mod mark;
 mod part;
 mod row;
 mod sizes;
-#[cfg(test)]
-mod tests;
 
 pub use close::{are_close, is_close};
 pub use costing::cost;

@@ -10,8 +10,6 @@ mod frag;
 mod instructions;
 mod laws;
 mod piece;
-#[cfg(test)]
-mod tests;
 
 pub use emission::{Emitted, HintAt, emit};
 pub use frag::Frag;

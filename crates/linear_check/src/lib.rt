@@ -12,8 +12,6 @@ mod laws;
 mod linear;
 mod predecessors;
 mod steps;
-#[cfg(test)]
-mod tests;
 
 pub use check::annotate;
 pub use envs::Envs;

@@ -1,8 +1,8 @@
 //! Fragments that are emitted and run by the machine's steps over cells that the tests lay.
 
-use crate::{Ask, Emitted, Frag, Piece, emit};
 use casm_word::{At, CellExpr, CellRef, Code, Reg, Side, words};
 use felt64::Felt;
+use frag_code::{Ask, Emitted, Frag, Piece, emit};
 use hint_source::Kind;
 use ro_machine::{Memory, State, StepFault, step};
 use std::process::Abort;

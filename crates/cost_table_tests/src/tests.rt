@@ -1,7 +1,7 @@
 //! Each family's costs and result expressions, branch by branch, over the types of one program.
 
-use super::*;
 use casm_word::{At, CellExpr, Reg, Side};
+use cost_table::*;
 use libfunc_registry::{Sig, signature};
 use sierra_types::{Arg, Function, LibfuncDecl, List, Name, Program, TypeDecl};
 use std::alloc::{AllocError, Global};

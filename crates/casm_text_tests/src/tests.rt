@@ -1,6 +1,6 @@
 //! Texts and faults that an independent assembler answered.
 
-use super::*;
+use casm_text::*;
 use std::test::Fail;
 use text_reading::Place;
 

@@ -2,8 +2,8 @@
 
 ghost use Rattle.std.specs.Prelude.{◌≡◌, length};
 
-use super::*;
 use libfunc_registry::signatures;
+use linear_check::*;
 use sierra_types::{
     Arg, Branch, Function, LibfuncDecl, List, Name, Program, Statement, Target, TypeDecl,
 };
