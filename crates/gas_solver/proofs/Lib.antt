@@ -1,6 +1,7 @@
 mod Answering
 mod Balanced
 mod ClosedTerms
+pub mod Deciding
 mod EdgeLaws
 mod EquationLaws
 mod Families
@@ -9,7 +10,7 @@ mod HeldCounts
 mod Knowing
 mod Lines
 mod Listing
-mod OneAnswer
+pub mod OneAnswer
 mod OneText
 mod Paid
 mod Suiting

@@ -10,11 +10,11 @@ pub enum GasFault {
     /// P40: some statement leads back to itself without a success branch of `withdraw_gas`. The list begins at the least
     /// such statement, and goes on along a shortest way back to it, each time by the least statement.
     #[error("a cycle of statements that withdraws no gas")]
-    Cycle(List<usize>),
+    Cycle(List<u64>),
     /// P41: this statement is the first that needs `2^32` or more. Or it is main's entry, and no statement needs so much, but
     /// a run with the call of main does.
     #[error("statement {0} needs 2^32 gas or more")]
-    TooLarge(usize),
+    TooLarge(u64),
     /// Memory ran out.
     #[error("out of memory")]
     Memory,

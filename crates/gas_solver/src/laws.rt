@@ -1,6 +1,6 @@
 //! Laws of gas plans. A law is a function without code, whose contract says what holds.
 
-ghost use Rattle.std.specs.Prelude.{◌≡◌, ◌≢◌, ◌↔◌, ℕ, List, slice_index};
+ghost use Rattle.std.specs.Prelude.{◌≡◌, ◌≢◌, ◌↔◌, ◌<◌, ℕ, List, length, slice_index};
 ghost use Rattle.graph_cycles.specs.Graph.{IsClosed, Leads, OnCycle};
 ghost use Rattle.sierra_types.specs.declared.program.Program.{Program};
 ghost use Rattle.type_table.specs.View.{TypesView};
@@ -37,6 +37,13 @@ pub fn one_fault()
 pub fn never_both()
     ensures { (p : Program) (t : TypesView) (sigs : List Sig) (main : ℕ) (plan : PlanView) (fault : GasFault) →
         IsPlan p t sigs main plan → fault ≢ Memory → IsGasFault p t sigs main fault → ⊥ }
+{}
+
+/// It cannot be that a typed program has neither a plan nor a fault other than out of memory.
+pub fn plan_or_fault()
+    ensures { (p : Program) (t : TypesView) (sigs : List Sig) (a : TypedList) (main : ℕ) → HasTypes p t → HasSignatures t p.libfuncs sigs →
+        Typed p t sigs a → main < length p.functions → ((plan : PlanView) → IsPlan p t sigs main plan → ⊥) →
+        ((fault : GasFault) → fault ≢ Memory → IsGasFault p t sigs main fault → ⊥) → ⊥ }
 {}
 
 /// Numbers meet the equations of a program's terms if and only if each is the greatest of what its statement's branches come

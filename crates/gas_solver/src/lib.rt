@@ -13,14 +13,12 @@ mod laws;
 mod plan;
 mod printing;
 mod solving;
-#[cfg(test)]
-mod tests;
 
 pub use accepted::Accepted;
 pub use fault::GasFault;
 pub use laws::{
     builtins_balance, edges_are_branches, equations, needs_exist, never_both, one_fault, one_plan,
-    one_text, plan_pays, terms_fit,
+    one_text, plan_or_fault, plan_pays, terms_fit,
 };
 pub use plan::GasPlan;
 pub use printing::print;

@@ -17,7 +17,7 @@ use least_needs::{Fault, Terms};
 use libfunc_registry::Sig;
 use linear_check::Envs;
 use sierra_types::{List, Program};
-use std::alloc::Global;
+use std::alloc::{AllocError, Global};
 use type_table::{Types, libfunc_positions};
 
 /// The number from which on a need is too large.
@@ -56,7 +56,7 @@ pub fn solve(
     let start = costs.entry(main);
     let entry = CALL + needs[start];
     if entry >= LIMIT {
-        return Err(GasFault::TooLarge(start));
+        return Err(GasFault::TooLarge(start as u64));
     }
     let amounts = costs.amounts(alloc, &needs)?;
     Ok(GasPlan::new(needs, amounts, entry))
@@ -70,8 +70,19 @@ fn least(alloc: Global, terms: &Terms) -> Result<Vec<u64>, GasFault>
 {
     match least_needs::solve(alloc, terms) {
         Ok(needs) => Ok(needs),
-        Err(Fault::Cycle(statements)) => Err(GasFault::Cycle(List::new(statements))),
-        Err(Fault::TooLarge(statement)) => Err(GasFault::TooLarge(statement)),
+        Err(Fault::Cycle(statements)) => Err(GasFault::Cycle(numbers(alloc, &statements)?)),
+        Err(Fault::TooLarge(statement)) => Err(GasFault::TooLarge(statement as u64)),
         Err(Fault::Memory) => Err(GasFault::Memory),
     }
+}
+
+/// The statements of a cycle as words of 64 bits.
+fn numbers(alloc: Global, statements: &[usize]) -> Result<List<u64>, AllocError>
+    ensures { IfOk result (λ numbers. numbers ≡ statements.now) }
+{
+    let mut numbers = Vec::with_capacity(alloc, statements.len())?;
+    for &statement in statements {
+        numbers.push(statement as u64)?;
+    }
+    Ok(List::new(numbers))
 }

@@ -3,6 +3,7 @@ pub mod Answering
 pub mod Bounds
 pub mod ClosedTerms
 pub mod CutNeeds
+pub mod Deciding
 pub mod Finding
 pub mod Going
 pub mod Layers

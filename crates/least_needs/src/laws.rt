@@ -6,7 +6,7 @@ ghost use Rattle.graph_cycles.specs.Graph.{IsClosed, Leads, LeadsBelow, OnCycle}
 ghost use Rattle.least_needs.specs.declared.terms.Term.{Term};
 ghost use Rattle.least_needs.specs.Terms.{AreBelow, FreeLeadOn, all_targets, graph_of, listed, terms_of};
 ghost use Rattle.least_needs.specs.Needs.{amount, AreNeeds, AtLeast, Meets, rank};
-ghost use Rattle.least_needs.specs.Cycles.{IsCycle};
+ghost use Rattle.least_needs.specs.Cycles.{IsCycle, IsLeastOnCycle};
 ghost use Rattle.least_needs.specs.Answers.{AreSmallNeeds, IsTooLarge};
 
 /// Targets stay below a bound as a statement is added whose targets are below it.
@@ -67,4 +67,15 @@ pub fn never_two()
     ensures small { (terms : List (List Term)) (needs : List ℕ) (s : ℕ) → AreSmallNeeds terms needs → ¬ IsTooLarge terms s }
     ensures small_cycle { (terms : List (List Term)) (needs nodes : List ℕ) → AreSmallNeeds terms needs → ¬ IsCycle (graph_of terms) nodes }
     ensures large_cycle { (terms : List (List Term)) (s : ℕ) (nodes : List ℕ) → IsTooLarge terms s → ¬ IsCycle (graph_of terms) nodes }
+{}
+
+/// It cannot be that no list names the cycle where some node is the least on one.
+pub fn a_cycle_is_named()
+    ensures { (g : List (List ℕ)) (start : ℕ) → IsLeastOnCycle g start → ((nodes : List ℕ) → IsCycle g nodes → ⊥) → ⊥ }
+{}
+
+/// It cannot be that there are no needs that are small enough, no first statement that needs too much and no cycle.
+pub fn needs_or_fault()
+    ensures { (terms : List (List Term)) → IsClosed (graph_of terms) → ((needs : List ℕ) → AreSmallNeeds terms needs → ⊥) →
+        ((s : ℕ) → IsTooLarge terms s → ⊥) → ((nodes : List ℕ) → IsCycle (graph_of terms) nodes → ⊥) → ⊥ }
 {}

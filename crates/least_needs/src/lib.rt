@@ -14,11 +14,9 @@ mod sources;
 mod terms;
 
 pub use laws::{
-    adding_below, adding_free, exist_without_cycles, meeting_is_least, never_two, none_on_a_cycle,
-    one_cycle, one_statement, one_system, rank_falls, terms_are_paid,
+    a_cycle_is_named, adding_below, adding_free, exist_without_cycles, meeting_is_least,
+    needs_or_fault, never_two, none_on_a_cycle, one_cycle, one_statement, one_system, rank_falls,
+    terms_are_paid,
 };
 pub use solving::{Fault, solve};
 pub use terms::{Targets, Term, Terms};
-
-#[cfg(test)]
-mod tests;

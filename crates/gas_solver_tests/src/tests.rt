@@ -1,6 +1,6 @@
 //! Programs, each with its plan as printed or its fault.
 
-use super::*;
+use gas_solver::*;
 use libfunc_registry::signatures;
 use linear_check::annotate;
 use sierra_types::{

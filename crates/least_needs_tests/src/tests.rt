@@ -2,7 +2,7 @@
 
 ghost use Rattle.std.specs.Prelude.{◌<◌};
 
-use super::*;
+use least_needs::*;
 use std::alloc::{AllocError, Global};
 use std::test::Fail;
 
