@@ -25,13 +25,13 @@ use Rattle.ap_refs.specs.Moves.{known, change, further}
 
 -- at most so far, where it is known how far
 abbrev pub IsShort : Option ℕ → Type 0
-IsShort moved = IfSome moved (λ n. n ≤ 2 ^ 20)
+IsShort moved = IfSome moved (λ n. n ≤ 1048575)
 
-cond_short : (b : Bool) (s c n u d m : ℕ) → n ≤ 2 ^ 20 → m ≤ 2 ^ 20 → IsShort (known (cond b (row s c n) (row u d m)).ap)
+cond_short : (b : Bool) (s c n u d m : ℕ) → n ≤ 1048575 → m ≤ 1048575 → IsShort (known (cond b (row s c n) (row u d m)).ap)
 cond_short true s c n u d m first second = first
 cond_short false s c n u d m first second = second
 
-match_short : (variants k : ℕ) → k ≤ 2 ^ 20 → IsShort (known (match_row variants k).ap)
+match_short : (variants k : ℕ) → k ≤ 1048575 → IsShort (known (match_row variants k).ap)
 match_short variants k few = cond_short (leb variants 1) 0 0 0 (2 + 2 * min k (variants - 2)) 0 (min k (variants - 2)) (omega arith) (omega arith)
 
 entry_short : (num : Num) → IsShort (known (entry_row num).ap)
@@ -40,12 +40,12 @@ entry_short nums.U8 = omega arith
 entry_short nums.U16 = omega arith
 entry_short nums.U32 = omega arith
 
-either : (moved : Option ℕ) (amount : ℕ) → IsShort moved → IfSome moved (λ n. (n ≤ 2 ^ 20) ⊎ (n ≡ amount))
+either : (moved : Option ℕ) (amount : ℕ) → IsShort moved → IfSome moved (λ n. (n ≤ 1048575) ⊎ (n ≡ amount))
 either None amount short = tt
 either (Some n) amount short = inl short
 
--- a statement whose amount is `amount` moves ap by that, or by at most 2 ^ 20 cells
-pub change_short : (t : TypesView) → IsTable t → (libfunc : Libfunc) → IsPlaced t libfunc → (amount k : ℕ) → k ≤ 2 ^ 20 → IfSome (change t libfunc amount k) (λ n. (n ≤ 2 ^ 20) ⊎ (n ≡ amount))
+-- a statement whose amount is `amount` moves ap by that, or by fewer than 2 ^ 20 cells
+pub change_short : (t : TypesView) → IsTable t → (libfunc : Libfunc) → IsPlaced t libfunc → (amount k : ℕ) → k ≤ 1048575 → IfSome (change t libfunc amount k) (λ n. (n ≤ 1048575) ⊎ (n ≡ amount))
 change_short t kept libfuncs.BranchAlign placed amount k few = inl (omega arith)
 change_short t kept libfuncs.Jump placed amount k few = inl (omega arith)
 change_short t kept (libfuncs.Rename ty) placed amount k few = inl (omega arith)
@@ -103,7 +103,7 @@ cond_step false x y is = absurd (none-some y is)
 
 -- with n statements done the amount is at most so large, and with one more the local state is as small
 abbrev pub IsFewStep : ℕ → Option ℕ → Step → Type 0
-IsFewStep n moved step = (step.1 ≤ n * 2 ^ 20) × AreFewLocals (n + 1) moved step.0
+IsFewStep n moved step = (step.1 ≤ n * 1048575) × AreFewLocals (n + 1) moved step.0
 
 allocate_few : (n cells : ℕ) (ap : Option ℕ) (locals : Locals) (step : Step) → cells ≤ 2 ^ 14 → AreFewLocals n ap locals → allocate cells ap locals ≡ Some step → (moved : Option ℕ) → IsFewStep n moved step
 allocate_few n cells None locals step small few is moved = absurd (none-some step is)
@@ -124,10 +124,10 @@ store_few n Before step is moved = absurd (none-some step is)
 store_few n (Allocating start cells) step is moved = absurd (none-some step is)
 store_few n Done step is moved = subst (IsFewStep n moved) (same_Some (Done, 0) step is) (omega arith, tt)
 
-none_few : (n : ℕ) (locals : Locals) (step : Step) → Some (locals, 0) ≡ Some step → step.1 ≤ n * 2 ^ 20
-none_few n locals step is = subst (λ (x : Step). x.1 ≤ n * 2 ^ 20) (same_Some (locals, 0) step is) (omega arith)
+none_few : (n : ℕ) (locals : Locals) (step : Step) → Some (locals, 0) ≡ Some step → step.1 ≤ n * 1048575
+none_few n locals step is = subst (λ (x : Step). x.1 ≤ n * 1048575) (same_Some (locals, 0) step is) (omega arith)
 
-pub amount_few : (t : TypesView) → IsTable t → (libfunc : Libfunc) → IsPlaced t libfunc → (n : ℕ) (ap : Option ℕ) (locals : Locals) (step : Step) → AreFewLocals n ap locals → local_step t libfunc ap locals ≡ Some step → step.1 ≤ n * 2 ^ 20
+pub amount_few : (t : TypesView) → IsTable t → (libfunc : Libfunc) → IsPlaced t libfunc → (n : ℕ) (ap : Option ℕ) (locals : Locals) (step : Step) → AreFewLocals n ap locals → local_step t libfunc ap locals ≡ Some step → step.1 ≤ n * 1048575
 amount_few t kept libfuncs.BranchAlign placed n ap locals step few is = none_few n locals step is
 amount_few t kept libfuncs.Jump placed n ap locals step few is = none_few n locals step is
 amount_few t kept (libfuncs.Rename ty) placed n ap locals step few is = none_few n locals step is
@@ -178,7 +178,7 @@ amount_few t kept (libfuncs.DictSquash num) placed n ap locals step few is = non
 amount_few t kept (libfuncs.DictEntries num) placed n ap locals step few is = none_few n locals step is
 
 -- behind a libfunc that leaves the locals as they are
-pass_on : (n : ℕ) (ap : Option ℕ) (locals : Locals) (moved : Option ℕ) → AreFewLocals n ap locals → IfSome moved (λ d. (d ≤ 2 ^ 20) ⊎ (d ≡ 0)) → AreFewLocals (n + 1) (further ap moved) locals
+pass_on : (n : ℕ) (ap : Option ℕ) (locals : Locals) (moved : Option ℕ) → AreFewLocals n ap locals → IfSome moved (λ d. (d ≤ 1048575) ⊎ (d ≡ 0)) → AreFewLocals (n + 1) (further ap moved) locals
 pass_on n None Before moved few short = tt
 pass_on n (Some a) Before None few short = tt
 pass_on n (Some a) Before (Some d) few (inl short) = omega (arith, few, short)
@@ -186,13 +186,13 @@ pass_on n (Some a) Before (Some d) few (inr same) = omega (arith, few, same)
 pass_on n ap (Allocating start cells) moved few short = omega (arith, few)
 pass_on n ap Done moved few short = tt
 
-pass_few : (n : ℕ) (ap : Option ℕ) (locals : Locals) (step : Step) (moved : Option ℕ) → AreFewLocals n ap locals → Some (locals, 0) ≡ Some step → IfSome moved (λ d. (d ≤ 2 ^ 20) ⊎ (d ≡ step.1)) → AreFewLocals (n + 1) (further ap moved) step.0
+pass_few : (n : ℕ) (ap : Option ℕ) (locals : Locals) (step : Step) (moved : Option ℕ) → AreFewLocals n ap locals → Some (locals, 0) ≡ Some step → IfSome moved (λ d. (d ≤ 1048575) ⊎ (d ≡ step.1)) → AreFewLocals (n + 1) (further ap moved) step.0
 pass_few n ap locals step moved few is short =
     let same = same_Some (locals, 0) step is in
-    subst (λ (x : Step). AreFewLocals (n + 1) (further ap moved) x.0) same (pass_on n ap locals moved few (subst (λ (x : Step). IfSome moved (λ d. (d ≤ 2 ^ 20) ⊎ (d ≡ x.1))) (sym same) short))
+    subst (λ (x : Step). AreFewLocals (n + 1) (further ap moved) x.0) same (pass_on n ap locals moved few (subst (λ (x : Step). IfSome moved (λ d. (d ≤ 1048575) ⊎ (d ≡ x.1))) (sym same) short))
 
 pub locals_few : (t : TypesView) → IsTable t → (libfunc : Libfunc) → IsPlaced t libfunc → (n : ℕ) (ap : Option ℕ) (locals : Locals) (step : Step) → AreFewLocals n ap locals → local_step t libfunc ap locals ≡ Some step
-    → (moved : Option ℕ) → IfSome moved (λ d. (d ≤ 2 ^ 20) ⊎ (d ≡ step.1)) → AreFewLocals (n + 1) (further ap moved) step.0
+    → (moved : Option ℕ) → IfSome moved (λ d. (d ≤ 1048575) ⊎ (d ≡ step.1)) → AreFewLocals (n + 1) (further ap moved) step.0
 locals_few t kept libfuncs.BranchAlign placed n ap locals step few is moved short = pass_few n ap locals step moved few is short
 locals_few t kept libfuncs.Jump placed n ap locals step few is moved short = pass_few n ap locals step moved few is short
 locals_few t kept (libfuncs.Rename ty) placed n ap locals step few is moved short = pass_few n ap locals step moved few is short
@@ -244,11 +244,11 @@ locals_few t kept (libfuncs.DictEntries num) placed n ap locals step few is move
 
 -- how far results are named from where ap was
 
-moved_low : (b : Bool) (s c n u d m cells : ℕ) → n ≤ 2 ^ 20 → m ≤ 2 ^ 20 → moved (cond b (row s c n) (row u d m)).ap cells ≤ 2 ^ 62
+moved_low : (b : Bool) (s c n u d m cells : ℕ) → n ≤ 1048575 → m ≤ 1048575 → moved (cond b (row s c n) (row u d m)).ap cells ≤ 2 ^ 62
 moved_low true s c n u d m cells first second = omega (arith, first)
 moved_low false s c n u d m cells first second = omega (arith, second)
 
-match_low : (variants k cells : ℕ) → k ≤ 2 ^ 20 → moved (match_row variants k).ap cells ≤ 2 ^ 62
+match_low : (variants k cells : ℕ) → k ≤ 1048575 → moved (match_row variants k).ap cells ≤ 2 ^ 62
 match_low variants k cells few = moved_low (leb variants 1) 0 0 0 (2 + 2 * min k (variants - 2)) 0 (min k (variants - 2)) cells (omega arith) (omega arith)
 
 entry_low : (num : Num) (cells : ℕ) → moved (entry_row num).ap cells ≤ 2 ^ 62
@@ -266,7 +266,7 @@ call_low : (t : TypesView) → HasFewCells t → (f : ℕ) (o : Option FunctionV
 call_low t few f None is = omega arith
 call_low t few f (Some g) is = (let small = (few f g is).results in omega (arith, small))
 
-pub moved_few : (t : TypesView) → IsTable t → HasFewCells t → (libfunc : Libfunc) → IsPlaced t libfunc → (k : ℕ) → k ≤ 2 ^ 20 → moved_by (fam_of t libfunc) k ≤ 2 ^ 62
+pub moved_few : (t : TypesView) → IsTable t → HasFewCells t → (libfunc : Libfunc) → IsPlaced t libfunc → (k : ℕ) → k ≤ 1048575 → moved_by (fam_of t libfunc) k ≤ 2 ^ 62
 moved_few t kept few libfuncs.BranchAlign placed k short = omega arith
 moved_few t kept few libfuncs.Jump placed k short = omega arith
 moved_few t kept few (libfuncs.Rename ty) placed k short = omega arith

@@ -140,7 +140,7 @@ within_more n d (e ∷ es) lt all =
     All-cons (IsWithin (reach_of (n + 1))) e es (expr_wider far (reach_of (n + 1)) (omega arith) (omega (arith, lt)) e (All-head (IsWithin far) e es all)) (within_more n d es lt (All-tail (IsWithin far) e es all))
 
 bounded_behind : (t : TypesView) → HasFewCells t → IsTable t → (sig : Sig) → IsPlaced t sig.libfunc → (n s : ℕ) (place : Place) (args : List Argument) (rest : Held Cells) (step : Step) (k : ℕ) (vs : List ℕ) (types : List TypeId)
-    → n < most_statements → k ≤ 2 ^ 20 → IsBounded n place → AreWithin (reach_of n) rest → All IsCloseExpr (joined args) → local_step t sig.libfunc place.ap place.locals ≡ Some step
+    → n < most_statements → k ≤ 1048575 → IsBounded n place → AreWithin (reach_of n) rest → All IsCloseExpr (joined args) → local_step t sig.libfunc place.ap place.locals ≡ Some step
     → IsBounded (n + 1) (behind t sig.libfunc place (joined args) rest step.0 step.1 k vs types)
 bounded_behind t few table sig placed n s place args rest step k vs types lt short bounded within close local =
     let libfunc = sig.libfunc in
@@ -175,12 +175,12 @@ part_of t s libfunc place args rest locals amount n (b ∷ bs) (ts ∷ types) (s
     let same : (n + 1) + k ≡ n + suc k = omega arith in
     (later.0, later.1, (let lt = later.2 in omega (arith, lt)), later.3 ∙ ap (λ m. behind t libfunc place args rest locals amount m later.0 later.1) same)
 
-no_fault : (fault : Option RefFault) (parts : List (Result (ℕ × Place) RefFault)) (k target : ℕ) (given : Place) → slice_get (parts_unless fault parts) k ≡ Some (Ok (target, given)) → (fault ≡ None) × (slice_get parts k ≡ Some (Ok (target, given)))
+pub no_fault : (fault : Option RefFault) (parts : List (Result (ℕ × Place) RefFault)) (k target : ℕ) (given : Place) → slice_get (parts_unless fault parts) k ≡ Some (Ok (target, given)) → (fault ≡ None) × (slice_get parts k ≡ Some (Ok (target, given)))
 no_fault None parts k target given is = (refl, is)
 no_fault (Some x) parts zero target given is = (let bad : ⊥ = cc in absurd bad)
 no_fault (Some x) parts (suc k) target given is = absurd (none-some _ is)
 
-stepped_of : (t : TypesView) (s : ℕ) (sig : Sig) (place : Place) (args : List Argument) (rest : Held Cells) (bs : List Branch) (o : Option Step) (k target : ℕ) (given : Place) → slice_get (stepped_parts t s sig place args rest bs o) k ≡ Some (Ok (target, given))
+pub stepped_of : (t : TypesView) (s : ℕ) (sig : Sig) (place : Place) (args : List Argument) (rest : Held Cells) (bs : List Branch) (o : Option Step) (k target : ℕ) (given : Place) → slice_get (stepped_parts t s sig place args rest bs o) k ≡ Some (Ok (target, given))
     → (step : Step) × (o ≡ Some step) × (vs : List ℕ) × (ts : List TypeId) × (k < length sig.branches) × (given ≡ behind t sig.libfunc place (joined args) rest step.0 step.1 k vs ts)
 stepped_of t s sig place args rest bs None k target given is = absurd (none-some _ is)
 stepped_of t s sig place args rest bs (Some step) k target given is =
@@ -232,11 +232,11 @@ beginning_bounded t few vs f =
       locals = omega arith;
     }
 
-mapped_some : {A B : Type 0} (f : A → B) (o : Option A) (y : B) → option_map f o ≡ Some y → (x : A) × (o ≡ Some x) × (f x ≡ y)
+pub mapped_some : {A B : Type 0} (f : A → B) (o : Option A) (y : B) → option_map f o ≡ Some y → (x : A) × (o ≡ Some x) × (f x ≡ y)
 mapped_some f None y is = absurd (none-some y is)
 mapped_some f (Some x) y is = (x, refl, same_Some (f x) y is)
 
-wider_locals : (n : ℕ) (o : Option ℕ) (locals : Locals) → AreFewLocals n o locals → AreFewLocals (n + 1) o locals
+pub wider_locals : (n : ℕ) (o : Option ℕ) (locals : Locals) → AreFewLocals n o locals → AreFewLocals (n + 1) o locals
 wider_locals n None Before few = tt
 wider_locals n (Some a) Before few = omega (arith, few)
 wider_locals n o (Allocating start cells) few = omega (arith, few)

@@ -1,4 +1,5 @@
 pub mod Alike
+pub mod Amounts
 pub mod Bounding
 pub mod Closeness
 pub mod Deciding
@@ -7,11 +8,13 @@ pub mod Equalities
 pub mod Fitting
 pub mod Forms
 pub mod Giving
+pub mod Holding
 pub mod Joining
 pub mod Keeping
 pub mod Lawfulness
 pub mod Lists
 pub mod Reaching
+pub mod Sizes
 pub mod Prepared
 pub mod Ready
 pub mod Stopped

@@ -163,8 +163,8 @@ begin_near : (n : ℕ) (o : Option ℕ) → n < most_statements → IsNearBegin 
 begin_near n None lt near = tt
 begin_near n (Some a) lt near = omega (arith, near, lt)
 
--- by at most 2 ^ 20 or by the amount is by at most 2 ^ 40
-pub short_moves : (moved : Option ℕ) (amount : ℕ) → amount < most_moved → IfSome moved (λ n. (n ≤ 2 ^ 20) ⊎ (n ≡ amount)) → IfSome moved (λ n. n ≤ most_moved)
+-- by fewer than 2 ^ 20 or by the amount is by at most 2 ^ 40
+pub short_moves : (moved : Option ℕ) (amount : ℕ) → amount < most_moved → IfSome moved (λ n. (n ≤ 1048575) ⊎ (n ≡ amount)) → IfSome moved (λ n. n ≤ most_moved)
 short_moves None amount few short = tt
 short_moves (Some n) amount few (inl short) = omega (arith, short)
 short_moves (Some n) amount few (inr same) = omega (arith, same, few)

@@ -52,11 +52,11 @@ AreWithin reach held = All (λ (x : Argument). All (IsWithin reach) x.1) held
 abbrev pub reach_of : ℕ → ℕ
 reach_of n = 2 ^ 62 + 2 ^ 42 + n * most_moved
 
--- until locals are reserved, a statement moves ap, or adds to the locals, by at most 2 ^ 20 cells
+-- until locals are reserved, a statement moves ap, or adds to the locals, by fewer than 2 ^ 20 cells
 abbrev pub AreFewLocals : ℕ → Option ℕ → Locals → Type 0
 AreFewLocals n None Before = Unit {0}
-AreFewLocals n (Some ap) Before = ap ≤ n * 2 ^ 20
-AreFewLocals n ap (Allocating start cells) = start + cells ≤ n * 2 ^ 20
+AreFewLocals n (Some ap) Before = ap ≤ n * 1048575
+AreFewLocals n ap (Allocating start cells) = start + cells ≤ n * 1048575
 AreFewLocals n ap Done = Unit {0}
 
 abbrev pub IsNearBegin : ℕ → Option ℕ → Type 0

@@ -2,7 +2,9 @@ pub mod Arguments
 pub mod Bounds
 pub mod FirstFault
 pub mod Flow
+pub mod Kept
 pub mod Locals
 pub mod Moves
 pub mod Placed
 pub mod Prepared
+pub mod Sized

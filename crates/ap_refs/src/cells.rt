@@ -1,24 +1,37 @@
 //! The expressions of a variable's cells.
 
-ghost use Rattle.std.specs.Prelude.{◌≡◌, [], ◌∷◌, ◌++◌, IfOk, OnOk};
+ghost use Rattle.std.specs.Prelude.{◌≡◌, [], ◌∷◌, IfOk};
 
 use casm_word::CellExpr;
 use std::alloc::{AllocError, Global};
 use std::marker::Model;
+use std::slice;
 
 /// The expressions of a variable's cells, in order.
+///
+/// Most variables have one cell, which takes no memory of its own.
 #[derive(Debug, Drop)]
 pub struct Cells {
-    list: Vec<CellExpr>,
+    kept: Kept,
+}
+
+/// How the expressions are kept.
+#[derive(Debug, Drop)]
+enum Kept {
+    /// A single one.
+    One(CellExpr),
+    /// None or several.
+    List(Vec<CellExpr>),
 }
 
 impl Model for Cells {
     ghost use Rattle.std.specs.Prelude.{List};
     ghost use Rattle.casm_word.specs.declared.cell_expr.CellExpr.{CellExpr as Expr};
+    ghost use Rattle.ap_refs.specs.Kept.{items_of};
 
     ghost Value = { List Expr };
 
-    ghost view = { λ cells. cells.list.items };
+    ghost view = { λ cells. items_of cells.kept };
 }
 
 impl Cells {
@@ -27,31 +40,46 @@ impl Cells {
         ensures { result ≡ [] }
     {
         Cells {
-            list: Vec::new(alloc),
+            kept: Kept::List(Vec::new(alloc)),
         }
     }
 
-    /// These cells.
+    /// A single cell. It takes no memory.
+    pub fn one(cell: CellExpr) -> Cells
+        ensures { result ≡ cell ∷ [] }
+    {
+        Cells {
+            kept: Kept::One(cell),
+        }
+    }
+
+    /// These cells. It takes no memory.
+    pub fn from_vec(list: Vec<CellExpr>) -> Cells
+        ensures { result ≡ list.items }
+    {
+        Cells {
+            kept: Kept::List(list),
+        }
+    }
+
+    /// The same cells as these. For a single one it takes no memory.
     pub fn from_slice(alloc: Global, cells: &[CellExpr]) -> Result<Cells, AllocError>
         ensures { IfOk result (λ made. made ≡ cells.now) }
     {
-        Ok(Cells {
-            list: Vec::from_slice(alloc, cells)?,
-        })
-    }
-
-    /// Adds a cell at the end.
-    pub fn push(&mut self, cell: CellExpr) -> Result<(), AllocError>
-        ensures { OnOk result (self.new ≡ self.old ++ cell ∷ []) }
-    {
-        Ok(self.list.push(cell)?)
+        if let [cell] = cells {
+            return Ok(Cells::one(*cell));
+        }
+        Ok(Cells::from_vec(Vec::from_slice(alloc, cells)?))
     }
 
     /// The cells as a slice.
     pub fn items(&self) -> &[CellExpr]
         ensures { result.now ≡ self.now }
     {
-        &self.list
+        match &self.kept {
+            Kept::One(cell) => slice::from_ref(cell),
+            Kept::List(list) => list,
+        }
     }
 }
 
@@ -61,8 +89,9 @@ impl Clone for Cells {
     ghost is_clone = { λ cells copied. copied ≡ cells };
 
     fn clone(&self) -> Result<Cells, AllocError> {
-        Ok(Cells {
-            list: Vec::from_slice(*self.list.allocator(), &self.list)?,
-        })
+        match &self.kept {
+            Kept::One(cell) => Ok(Cells::one(*cell)),
+            Kept::List(list) => Ok(Cells::from_vec(Vec::from_slice(*list.allocator(), list)?)),
+        }
     }
 }

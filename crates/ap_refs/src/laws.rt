@@ -1,16 +1,23 @@
 //! Laws of places. A law is a function without code, whose contract says what holds.
 
-ghost use Rattle.std.specs.Prelude.{◌≡◌, ◌↔◌, ◌⊎◌, ◌<◌, ℕ, List, Ok, length};
+ghost use Rattle.std.specs.Prelude.{◌≡◌, ◌↔◌, ◌⊎◌, ◌<◌, ◌^◌, ℕ, List, Ok, Some, length};
 ghost use Rattle.sierra_types.specs.declared.program.Program.{Program};
 ghost use Rattle.type_table.specs.View.{TypesView};
 ghost use Rattle.libfunc_registry.specs.declared.sig.Sig.{Sig};
+ghost use Rattle.libfunc_registry.specs.Fam.{fam_of};
+ghost use Rattle.cost_table.specs.Fits.{Fit, IsLocalInCells};
 ghost use Rattle.linear_check.specs.Typed.{TypedList};
 ghost use Rattle.statement_walk.specs.Annotates.{Annotates};
 ghost use Rattle.statement_walk.specs.Rules.{Lawful};
 ghost use Rattle.statement_walk.specs.Walk.{Stops};
 ghost use Rattle.ap_refs.specs.declared.fault.RefFault.{RefFault};
 ghost use Rattle.ap_refs.specs.declared.fault.RefFault.TheVariants.{Memory};
+ghost use Rattle.ap_refs.specs.declared.place.Place.{Place};
+ghost use Rattle.ap_refs.specs.declared.place.Locals.{Locals};
+ghost use Rattle.ap_refs.specs.Arguments.{taken, joined};
+ghost use Rattle.ap_refs.specs.Locals.{local_step};
 ghost use Rattle.ap_refs.specs.Placed.{Placed, PlacedList, IsAlike};
+ghost use Rattle.ap_refs.specs.Sized.{AreSized, IsStep};
 ghost use Rattle.ap_refs.specs.Prepared.{IsTypedProgram};
 ghost use Rattle.ap_refs.specs.FirstFault.{FirstFault};
 ghost use Rattle.ap_refs.specs.Flow.{rules};
@@ -59,4 +66,28 @@ pub fn placed_by_the_rules()
 pub fn same_variables()
     ensures { (p : Program) (t : TypesView) (sigs : List Sig) (envs : TypedList) → IsTypedProgram p t sigs envs → (a : PlacedList) → Placed p t sigs a →
         (s : ℕ) → s < length p.statements → IsAlike envs a s }
+{}
+
+/// At each statement of a typed program that has places, a variable has as many cells as its type's size says, and numbers
+/// among them are below the field's order.
+pub fn cells_of_types()
+    ensures { (p : Program) (t : TypesView) (sigs : List Sig) (envs : TypedList) → IsTypedProgram p t sigs envs → (a : PlacedList) → Placed p t sigs a →
+        (s : ℕ) → s < length p.statements → AreSized t envs a s }
+{}
+
+/// The cells of the arguments of a libfunc's statement fit the libfunc's signature: they are as many as the arguments' sizes
+/// say, of the marked forms, close, and with numbers below the field's order. Of the local that `store_local` takes it is a
+/// premise that its cells are cells.
+pub fn arguments_fit()
+    ensures { (p : Program) (t : TypesView) (sigs : List Sig) (envs : TypedList) → IsTypedProgram p t sigs envs → (a : PlacedList) → Placed p t sigs a →
+        (s : ℕ) (args : List ℕ) (sig : Sig) (place : Place) → IsStep p sigs a s args sig place → IsLocalInCells (fam_of t sig.libfunc) (joined (taken args place.cells).0) →
+        Fit (fam_of t sig.libfunc) (joined (taken args place.cells).0) }
+{}
+
+/// The amount of a libfunc's statement is below `2^40`: that of `alloc_local`, the offset of its local from fp, and that of
+/// `finalize_locals`, the number of cells of the locals. Of each other it is 0.
+pub fn amounts_are_few()
+    ensures { (p : Program) (t : TypesView) (sigs : List Sig) (envs : TypedList) → IsTypedProgram p t sigs envs → (a : PlacedList) → Placed p t sigs a →
+        (s : ℕ) (args : List ℕ) (sig : Sig) (place : Place) → IsStep p sigs a s args sig place → (locals : Locals) (amount : ℕ) →
+        local_step t sig.libfunc place.ap place.locals ≡ Some (locals, amount) → amount < 2 ^ 40 }
 {}

@@ -18,14 +18,12 @@ mod passing;
 mod place;
 mod placing;
 mod same;
-#[cfg(test)]
-mod tests;
 
 pub use check::places;
 pub use fault::RefFault;
 pub use laws::{
-    never_both, never_memory, one_fault, one_list, placed_by_the_rules, placed_or_fault,
-    same_variables,
+    amounts_are_few, arguments_fit, cells_of_types, never_both, never_memory, one_fault, one_list,
+    placed_by_the_rules, placed_or_fault, same_variables,
 };
 pub use listed::Places;
 pub use place::Locals;

@@ -93,11 +93,14 @@ fn lower_cells(alloc: Global, by: u64, cells: &[CellExpr]) -> Result<Cells, Allo
     requires within { All (IsWithin widest) cells.now }
     ensures { IfOk result (λ made. made ≡ map (expressions.lowered by) cells.now) }
 {
-    let mut made = Cells::new(alloc);
-    for cell in cells {
-        made.push(lowered(*cell, by))?;
+    if let [cell] = cells {
+        return Ok(Cells::one(lowered(*cell, by)));
     }
-    Ok(made)
+    let mut made = Vec::with_capacity(alloc, cells.len())?;
+    for cell in cells {
+        keep(&mut made, lowered(*cell, by))?;
+    }
+    Ok(Cells::from_vec(made))
 }
 
 /// What is held, named after ap moved up by `by` cells.

@@ -20,6 +20,7 @@ use crate::marks::marks_of;
 use crate::passing::Passing;
 use crate::place::{Locals, Place};
 use crate::{arguments, locals, moves, same};
+use casm_word::CellExpr;
 use held_list::Held;
 use libfunc_registry::{Libfunc, Sig};
 use sierra_types::{Branch, Function, Name, Program, Statement};
@@ -249,7 +250,29 @@ impl Placing<'_> {
         requires here { statement + 1 < 2 ^ 64 }
         ensures { IfOk result (λ parts. AreFirst parts.given.items parts.fault (flow.taken_parts self.now.types.now statement sig.now place.now branches.now (args.now, rest.now))) }
     {
+        if let [only] = args {
+            return self.pass_cells(statement, sig, branches, place, args, only.1.items(), rest);
+        }
         let cells = arguments::join(self.alloc, args)?;
+        self.pass_cells(statement, sig, branches, place, args, &cells, rest)
+    }
+
+    /// The same, where the arguments have these cells.
+    fn pass_cells(
+        &self,
+        statement: usize,
+        sig: &Sig,
+        branches: &[Branch],
+        place: &Place,
+        args: &[(u64, Cells)],
+        cells: &[CellExpr],
+        rest: &Held<Cells>,
+    ) -> Result<Branches<Place, RefFault>, AllocError>
+        requires begin { CanBegin self.now.types.now sig.now branches.now place.now rest.now }
+        requires here { statement + 1 < 2 ^ 64 }
+        requires cells { cells.now ≡ arguments_of.joined args.now }
+        ensures { IfOk result (λ parts. AreFirst parts.given.items parts.fault (flow.taken_parts self.now.types.now statement sig.now place.now branches.now (args.now, rest.now))) }
+    {
         let step = locals::local_step(self.types, sig.libfunc, place.ap, place.locals);
         let fault = invoke_fault(
             statement as u64,
@@ -270,7 +293,7 @@ impl Placing<'_> {
             types: self.types,
             sig,
             place,
-            args: &cells,
+            args: cells,
             rest,
             locals,
             amount,

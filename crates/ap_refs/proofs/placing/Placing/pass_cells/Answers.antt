@@ -3,7 +3,7 @@ use Rattle.ap_refs.specs.Flow.{invoke_fault}
 use Rattle.ap_refs.proofs.Lawfulness.{step_none}
 use Rattle.ap_refs.proofs.Ready.{placed_of, can_step}
 use Rattle.ap_refs.proofs.Stopped.{not_some, pass_done}
-use Rattle.ap_refs.proofs.placing.Placing.pass.Goals as goal
+use Rattle.ap_refs.proofs.placing.Placing.pass_cells.Goals as goal
 
 pub local_step-step-requires-clause-placed : goal.local_step-step-requires-clause-placed
 local_step-step-requires-clause-placed c = placed_of c.args.self.now.types.now c.args.sig.now c.requires.begin.table c.requires.begin.signature
@@ -14,13 +14,13 @@ give_all-requires-clause-step c =
     let sig = c.args.sig.now in
     let step = c.local_step-step.result in
     let none = sym (c.invoke_fault-fault.ensures types) ∙ not_some c.invoke_fault-fault.result c.if-is_some.ensures in
-    can_step types c.args.statement sig c.args.branches.now c.args.place.now c.args.args.now c.deref.result.now c.args.rest.now c.in-Some.locals c.in-Some.amount c.requires.begin
-    (c.deref.ensures.value ∙ c.in_ok-cells.ensures) (step_none c.args.statement types sig.libfunc c.args.args.now c.args.rest.now step none).0
+    can_step types c.args.statement sig c.args.branches.now c.args.place.now c.args.args.now c.args.cells.now c.args.rest.now c.in-Some.locals c.in-Some.amount c.requires.begin
+    c.requires.cells (step_none c.args.statement types sig.libfunc c.args.args.now c.args.rest.now step none).0
     (sym c.local_step-step.ensures ∙ c.in-Some.is)
 
 pub returns : goal.returns
 returns c =
     let types = c.args.self.now.types.now in
-    pass_done types c.args.statement c.args.sig.now c.args.place.now c.args.branches.now c.args.args.now c.args.rest.now c.deref.result.now c.in-Some.locals c.in-Some.amount
-    c.local_step-step.result c.invoke_fault-fault.result c.in_ok-give_all.field-0.items (c.deref.ensures.value ∙ c.in_ok-cells.ensures) c.in-Some.is c.local_step-step.ensures
+    pass_done types c.args.statement c.args.sig.now c.args.place.now c.args.branches.now c.args.args.now c.args.rest.now c.args.cells.now c.in-Some.locals c.in-Some.amount
+    c.local_step-step.result c.invoke_fault-fault.result c.in_ok-give_all.field-0.items c.requires.cells c.in-Some.is c.local_step-step.ensures
     (c.invoke_fault-fault.ensures types) (not_some c.invoke_fault-fault.result c.if-is_some.ensures) c.in_ok-give_all.ensures

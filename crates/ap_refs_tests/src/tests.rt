@@ -3,7 +3,7 @@
 
 ghost use Rattle.std.specs.Prelude.{◌≡◌, length};
 
-use super::*;
+use ap_refs::*;
 use casm_word::{At, CellExpr, Reg, Side};
 use libfunc_registry::signatures;
 use linear_check::{Envs, annotate};
@@ -71,6 +71,7 @@ const LIBFUNCS: &[&str] = &[
     "empty struct_construct Empty",
     "storeE store_temp Edge",
     "dropE drop Edge",
+    "rename rename felt64",
 ];
 
 /// Functions, each as its entry, the types of its parameters, which are the variables from 0 on, `->` and the types of its
@@ -273,6 +274,45 @@ const FORMS: &[Row] = &[
         "storeE 0 -> 0; dropE 0 ->; const -> 1; store 1 -> 1; store 1 -> 1; alloc -> 2; finalize ->; local 2 1 -> 3; drop 3 ->; return",
         "P33 7 2",
     ),
+    // At the least offset from fp an argument is taken, and so it is at the least one from ap.
+    (
+        "0 Edge ->",
+        "dropE 0 ->; finalize ->; finalize ->; return",
+        "P34 2",
+    ),
+    (
+        "0 Edge ->",
+        "const -> 1; store 1 -> 1; storeE 0 -> 0; const -> 2; store 2 -> 2; drop 1 ->; drop 2 ->; dropE 0 ->; finalize ->; finalize ->; return",
+        "P34 9",
+    ),
+    (
+        "0 Edge ->",
+        "const -> 1; store 1 -> 1; storeE 0 -> 0; const -> 2; store 2 -> 2; store 2 -> 2; drop 1 ->; drop 2 ->; dropE 0 ->; return",
+        "P33 6 1",
+    ),
+    // The first cell of the sum is at the least offset, and the second one further.
+    (
+        "0 Edge ->",
+        "const -> 1; store 1 -> 1; const -> 2; store 2 -> 2; add 2 1 -> 3; storeE 0 -> 0; const -> 4; store 4 -> 4; drop 3 ->; drop 4 ->; dropE 0 ->; return",
+        "P33 8 3",
+    ),
+    // The cell that a word points behind.
+    (
+        "0 Edge ->",
+        "const -> 1; store 1 -> 1; box 1 -> 2; unbox 2 -> 3; storeE 0 -> 0; const -> 4; store 4 -> 4; drop 3 ->; drop 4 ->; dropE 0 ->; finalize ->; finalize ->; return",
+        "P34 11",
+    ),
+    (
+        "0 Edge ->",
+        "const -> 1; store 1 -> 1; box 1 -> 2; unbox 2 -> 3; storeE 0 -> 0; const -> 4; store 4 -> 4; store 4 -> 4; drop 3 ->; drop 4 ->; dropE 0 ->; return",
+        "P33 8 3",
+    ),
+    (
+        "0 felt64 Edge ->",
+        "rename 0 -> 0; drop 0 ->; dropE 1 ->; return",
+        "P33 0 0",
+    ),
+    ("0 felt64 Edge -> felt64 Edge", "return 0 1", "P33 0 0"),
 ];
 
 const MERGES: &[Row] = &[
@@ -300,6 +340,28 @@ const MERGES: &[Row] = &[
         "0 felt64 ->",
         "is_zero 0 -> ->4 1; align ->; disable ->; jump ->8; align ->; unwrap 1 -> 1; drop 1 ->; disable ->; return",
         "0 Before 0=fp-3; 0 Before; 0 Before; ? Before; 0 Before 1=fp-3; 0 Before 1=fp-3; 0 Before 1=fp-3; 0 Before; ? Before;",
+    ),
+    // Locals are being placed on both ways: as many, and one more.
+    (
+        "0 felt64 ->",
+        "is_zero 0 -> ->5 1; align ->; alloc -> 2; forget 2 ->; jump ->10; align ->; unwrap 1 -> 1; drop 1 ->; alloc -> 2; forget 2 ->; finalize ->; return",
+        "0 Before 0=fp-3; 0 Before; 0 Before; 0 Allocating 0 1 2=fp0; 0 Allocating 0 1; 0 Before 1=fp-3; 0 Before 1=fp-3; 0 Before 1=fp-3; 0 Before; 0 Allocating 0 1 2=fp0; 0 Allocating 0 1; 1 Done;",
+    ),
+    (
+        "0 felt64 ->",
+        "is_zero 0 -> ->5 1; align ->; alloc -> 2; forget 2 ->; jump ->12; align ->; unwrap 1 -> 1; drop 1 ->; alloc -> 2; forget 2 ->; alloc -> 2; forget 2 ->; finalize ->; return",
+        "P24 11 -",
+    ),
+    // A call on both ways, and on one alone.
+    (
+        "0 felt64 -> felt64",
+        "is_zero 0 -> ->6 1; align ->; const -> 2; store 2 -> 2; call 2 -> 2; jump ->10; align ->; unwrap 1 -> 2; store 2 -> 2; call 2 -> 2; return 2",
+        "0 Before 0=fp-3; 0 Before; 0 Before; 0 Before 2=#7; 1 Before 2=ap-1; ? Before 2=ap-1; 0 Before 1=fp-3; 0 Before 1=fp-3; 0 Before 2=fp-3; 1 Before 2=ap-1; ? Before 2=ap-1;",
+    ),
+    (
+        "0 felt64 -> felt64",
+        "is_zero 0 -> ->6 1; align ->; const -> 2; store 2 -> 2; call 2 -> 2; jump ->9; align ->; unwrap 1 -> 2; store 2 -> 2; return 2",
+        "P24 8 -",
     ),
 ];
 
