@@ -1,7 +1,7 @@
 -- The lines of refused programs: a code, and the name of a type, a libfunc or a function, or the numbers of a statement and
--- of a variable.
+-- of a variable, or those of the statements of a cycle.
 use Rattle.std.specs.Prelude.{ℕ, ◌++◌, List, [], ◌∷◌, Option, Some, None, codes, decimal}
-use Rattle.std.specs.List.{concat}
+use Rattle.std.specs.List.{concat, flat_map}
 use Rattle.type_table.specs.declared.fault.TypeFault.{TypeFault}
 use Rattle.type_table.specs.declared.fault.TypeFault.TheVariants as type_faults
 use Rattle.libfunc_registry.specs.declared.sig.SigFault.{SigFault}
@@ -12,6 +12,8 @@ use Rattle.entry_check.specs.declared.fault.EntryFault.{EntryFault}
 use Rattle.entry_check.specs.declared.fault.EntryFault.TheVariants as entry_faults
 use Rattle.ap_refs.specs.declared.fault.RefFault.{RefFault}
 use Rattle.ap_refs.specs.declared.fault.RefFault.TheVariants as place_faults
+use Rattle.gas_solver.specs.declared.fault.GasFault.{GasFault}
+use Rattle.gas_solver.specs.declared.fault.GasFault.TheVariants as gas_faults
 use Rattle.program_checks.specs.declared.refusal.Refusal.{Refusal}
 use Rattle.program_checks.specs.declared.refusal.Refusal.TheVariants as refusals
 
@@ -72,6 +74,15 @@ place_fault_line (place_faults.OffsetTooFar s v) = variable_line (codes "P33") s
 place_fault_line (place_faults.LocalRule s) = statement_line (codes "P34") s
 place_fault_line place_faults.Memory = []
 
+-- a number after one space
+abbrev pub spaced : ℕ → List ℕ
+spaced n = codes " " ++ decimal n
+
+abbrev pub gas_fault_line : GasFault → List ℕ
+gas_fault_line (gas_faults.Cycle statements) = (codes "P40" ++ flat_map spaced statements) ++ codes "\n"
+gas_fault_line (gas_faults.TooLarge s) = statement_line (codes "P41") s
+gas_fault_line gas_faults.Memory = []
+
 -- the line of a refusal; out of memory has none
 abbrev pub refusal_line : Refusal → List ℕ
 refusal_line (refusals.Types fault) = type_fault_line fault
@@ -79,4 +90,5 @@ refusal_line (refusals.Libfuncs fault) = libfunc_fault_line fault
 refusal_line (refusals.Statements fault) = linear_fault_line fault
 refusal_line (refusals.Entry fault) = entry_fault_line fault
 refusal_line (refusals.Places fault) = place_fault_line fault
+refusal_line (refusals.Gas fault) = gas_fault_line fault
 refusal_line refusals.Memory = []

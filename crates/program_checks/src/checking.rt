@@ -6,13 +6,15 @@ ghost use Rattle.libfunc_registry.specs.Signature.{HasSignatures};
 ghost use Rattle.linear_check.specs.Typed.{Typed};
 ghost use Rattle.entry_check.specs.Entry.{entry_of};
 ghost use Rattle.ap_refs.specs.Prepared.{IsTypedProgram};
-ghost use Rattle.ap_refs.specs.Placed.{Placed};
+ghost use Rattle.ap_refs.specs.Placed.{Placed, PlacedList};
+ghost use Rattle.gas_solver.specs.Plans.{IsPlan};
 ghost use Rattle.program_checks.specs.Checks.{Finds, Refused};
 ghost use Rattle.program_checks.specs.declared.refusal.Refusal.TheVariants as refusals;
 
 use crate::refusal::Refusal;
 use ap_refs::{Places, RefFault, places};
 use entry_check::check_entry;
+use gas_solver::{GasFault, GasPlan, solve};
 use libfunc_registry::{Sig, SigFault, signatures};
 use linear_check::{Envs, LinearFault, annotate};
 use sierra_types::{List, Program};
@@ -32,6 +34,8 @@ pub struct Checked {
     pub main: usize,
     /// The places of each statement's variables.
     pub places: Places,
+    /// What each statement needs of gas, and a run to begin.
+    pub plan: GasPlan,
 }
 
 /// What the checks find of a program, which has at most `2^20` statements, or its first refusal.
@@ -48,12 +52,14 @@ pub fn check(alloc: Global, program: &Program) -> Result<Checked, Refusal>
         Err(fault) => return Err(Refusal::Entry(fault)),
     };
     let places = check_places(alloc, program, &types, signatures.items(), &envs)?;
+    let plan = check_gas(alloc, program, &types, signatures.items(), &envs, main)?;
     Ok(Checked {
         types,
         signatures,
         envs,
         main,
         places,
+        plan,
     })
 }
 
@@ -118,5 +124,28 @@ fn check_places(
         Ok(places) => Ok(places),
         Err(RefFault::Memory) => Err(Refusal::Memory),
         Err(fault) => Err(Refusal::Places(fault)),
+    }
+}
+
+/// Its gas plan, where its places are known.
+#[tactic(auto, using(crate::proofs::Entries::entry_below))]
+fn check_gas(
+    alloc: Global,
+    program: &Program,
+    types: &Types,
+    sigs: &[Sig],
+    envs: &Envs,
+    main: usize,
+) -> Result<GasPlan, Refusal>
+    requires typed { IsTypedProgram program.now types.now sigs.now envs.now }
+    requires main { entry_of program.now types.now ≡ Ok main }
+    requires placed { (places : PlacedList) × Placed program.now types.now sigs.now places }
+    ensures passes { IfOk result (IsPlan program.now types.now sigs.now main) }
+    ensures refused { IfErr result (λ refusal. refusal ≢ refusals.Memory → Refused program.now refusal) }
+{
+    match solve(alloc, program, types, sigs, envs, main) {
+        Ok(plan) => Ok(plan),
+        Err(GasFault::Memory) => Err(Refusal::Memory),
+        Err(fault) => Err(Refusal::Gas(fault)),
     }
 }

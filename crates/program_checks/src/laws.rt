@@ -1,13 +1,19 @@
 //! Laws of the checks. A law is a function without code, whose contract says what holds.
 
 ghost use Rattle.std.specs.Prelude.{◌≡◌, ◌≤◌, ◌^◌, length};
+ghost use Rattle.gas_solver.specs.Plans.{PlanView};
 ghost use Rattle.sierra_types.specs.declared.program.Program.{Program};
 ghost use Rattle.program_checks.specs.declared.refusal.Refusal.{Refusal};
-ghost use Rattle.program_checks.specs.Checks.{Passes, Refused};
+ghost use Rattle.program_checks.specs.Checks.{Passes, HasPlan, Refused};
 
 /// A program is refused for one reason.
 pub fn one_refusal()
     ensures { (program : Program) (a b : Refusal) → Refused program a → Refused program b → a ≡ b }
+{}
+
+/// A program that passes the checks has one gas plan.
+pub fn one_gas_plan()
+    ensures { (program : Program) (a b : PlanView) → HasPlan program a → HasPlan program b → a ≡ b }
 {}
 
 /// It cannot be that a program of at most `2^20` statements neither passes the checks nor is refused, and no program does

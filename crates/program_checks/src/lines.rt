@@ -1,11 +1,13 @@
 //! The line of a refused program: a code, and the name or the numbers that it is about.
 
-ghost use Rattle.std.specs.Prelude.{◌≡◌, IfOk, codes, string_bytes};
-ghost use Rattle.program_checks.specs.Lines.{refusal_line, type_fault_line, libfunc_fault_line, linear_fault_line, entry_fault_line, place_fault_line, name_line};
+ghost use Rattle.std.specs.Prelude.{◌≡◌, ◌++◌, IfOk, OnOk, codes, string_bytes};
+ghost use Rattle.std.specs.List.{flat_map};
+ghost use Rattle.program_checks.specs.Lines.{refusal_line, type_fault_line, libfunc_fault_line, linear_fault_line, entry_fault_line, place_fault_line, gas_fault_line, name_line, spaced};
 
 use crate::refusal::Refusal;
 use ap_refs::RefFault;
 use entry_check::EntryFault;
+use gas_solver::GasFault;
 use libfunc_registry::SigFault;
 use linear_check::LinearFault;
 use sierra_types::Name;
@@ -22,6 +24,7 @@ pub fn refusal_line(alloc: Global, refusal: &Refusal) -> Result<Vec<u8>, AllocEr
         Refusal::Statements(fault) => Ok(linear_fault_line(alloc, *fault)?.into_bytes()),
         Refusal::Entry(fault) => Ok(entry_fault_line(alloc, *fault)?.into_bytes()),
         Refusal::Places(fault) => Ok(place_fault_line(alloc, *fault)?.into_bytes()),
+        Refusal::Gas(fault) => Ok(gas_fault_line(alloc, fault)?.into_bytes()),
         Refusal::Memory => Ok(Vec::new(alloc)),
     }
 }
@@ -129,6 +132,36 @@ fn place_fault_line(alloc: Global, fault: RefFault) -> Result<String, AllocError
         RefFault::LocalRule { statement } => format!(in alloc; "P34 {statement}\n"),
         RefFault::Memory => Ok(String::new(alloc)),
     }
+}
+
+/// The line of a program without a gas plan.
+fn gas_fault_line(alloc: Global, fault: &GasFault) -> Result<String, AllocError>
+    ensures { IfOk result (λ line. string_bytes line ≡ gas_fault_line fault.now) }
+{
+    match fault {
+        GasFault::Cycle(statements) => cycle_line(alloc, statements.items()),
+        GasFault::TooLarge(statement) => format!(in alloc; "P41 {statement}\n"),
+        GasFault::Memory => Ok(String::new(alloc)),
+    }
+}
+
+/// The line of a cycle, by its statements in order.
+fn cycle_line(alloc: Global, statements: &[u64]) -> Result<String, AllocError>
+    ensures { IfOk result (λ line. string_bytes line ≡ (codes "P40" ++ flat_map spaced statements.now) ++ codes "\n") }
+{
+    let mut line = String::from_str(alloc, "P40")?;
+    for statement in statements {
+        push_number(&mut line, *statement)?;
+    }
+    line.push('\n')?;
+    Ok(line)
+}
+
+/// Adds a number after one space.
+fn push_number(line: &mut String, number: u64) -> Result<(), AllocError>
+    ensures { OnOk result (string_bytes line.new ≡ string_bytes line.old ++ spaced number) }
+{
+    write!(line, " {number}")
 }
 
 /// A code with its space, and a name.

@@ -2,6 +2,7 @@
 
 use ap_refs::RefFault;
 use entry_check::EntryFault;
+use gas_solver::GasFault;
 use libfunc_registry::SigFault;
 use linear_check::LinearFault;
 use thiserror::Error;
@@ -26,6 +27,9 @@ pub enum Refusal {
     /// A statement has no places.
     #[error("{0}")]
     Places(RefFault),
+    /// A run needs gas without bound, or more than there may be.
+    #[error("{0}")]
+    Gas(GasFault),
     /// There was no memory.
     #[error("out of memory")]
     Memory,

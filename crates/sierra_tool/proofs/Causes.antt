@@ -14,6 +14,7 @@ use Rattle.sierra_tool.specs.declared.command.Source.{Source}
 use Rattle.sierra_tool.specs.declared.command.Source.TheVariants as sources
 use Rattle.first_form.specs.declared.program.Program.{Program}
 use Rattle.first_form.specs.declared.input.Input.{Input}
+use Rattle.gas_solver.specs.Plans.{PlanView}
 use Rattle.sierra_tool.specs.Causes.{Reading, absent, unread, found, SourceReadings, Holds, IsRunFile, IsTree, IsOfForm, IsCheckedTree, IsRefusedTree, HasProgram, HasInput, HasRun, CanRun, ComesTo, IsCasm, Cause}
 use Rattle.sierra_tool.specs.Command.{limit, IsRead, IsCompiled}
 use Rattle.first_form.specs.Forms.{IsProgram, IsInput}
@@ -35,8 +36,8 @@ use Rattle.sierra_text.specs.Layout.{layout}
 use Rattle.sierra_text.proofs.Refusing.{same_program as one_tree, one_refusal as one_text_fault, program_or_refusal, never_both as text_never_both}
 use Rattle.sierra_types.specs.declared.program.Program.{Program as Tree}
 use Rattle.program_checks.specs.Checks as checks
-use Rattle.program_checks.proofs.Checks.{passes_or_refused, one_refusal as one_program_refusal, never_both as passes_never_both}
-use Rattle.sierra_tool.specs.Stages.{IsUnfit, IsRefused, NoTree, FailsChecks, NoProgram, NoInput, NoRun, NoCasm}
+use Rattle.program_checks.proofs.Checks.{one_gas_plan, passes_or_refused, one_refusal as one_program_refusal, never_both as passes_never_both}
+use Rattle.sierra_tool.specs.Stages.{IsUnfit, IsRefused, NoTree, FailsChecks, NoChecked, NoProgram, NoInput, NoRun, NoCasm}
 use Rattle.first_form.proofs.FormLaws.{one_program, one_input}
 use Rattle.first_form.proofs.VerdictLaws.{one_verdict, some_verdict}
 use Rattle.casm_text.proofs.Refusing.{one_code, one_refusal as one_asm_fault, code_or_refusal, never_both as never_refused}
@@ -128,6 +129,7 @@ of_run_once program input run a b p q = p.2 ∙ one_judgement program input run 
 abbrev AfterGas : Command → SourceReadings → Program → Input → Answer → Type 0
 AfterGas (commands.Check check) readings program input answer = Stage sources.Run NoRun IsRunFile (OfRun program input) (readings sources.Run) answer
 AfterGas (commands.Run execute) readings program input answer = (file : List ℕ) × (file ≡ spelling (honest_run program input)) × (answer ≡ answers.Ran file)
+AfterGas (commands.Gas gas) readings program input answer = ⊥
 AfterGas (commands.Show show) readings program input answer = ⊥
 AfterGas (commands.Asm assemble) readings program input answer = ⊥
 AfterGas commands.Planned readings program input answer = ⊥
@@ -142,6 +144,12 @@ AfterProgram command readings program = Stage sources.Input (NoInput program) (I
 -- the stages of a command that starts a run
 abbrev Starting : Command → SourceReadings → Answer → Type 0
 Starting command readings = Stage sources.Program NoProgram IsOfForm (AfterProgram command readings) (readings sources.Program)
+
+abbrev OfPlan : Tree → Answer → Type 0
+OfPlan tree answer = (plan : PlanView) × checks.HasPlan tree plan × (answer ≡ answers.Plan plan)
+
+abbrev Planning : SourceReadings → Answer → Type 0
+Planning readings = Stage sources.Program NoChecked IsCheckedTree OfPlan (readings sources.Program)
 
 abbrev OfTree : Tree → Answer → Type 0
 OfTree tree answer = (text : List ℕ) × (text ≡ layout tree) × (answer ≡ answers.Printed text)
@@ -158,6 +166,7 @@ Assembling readings = Stage sources.Casm NoCasm IsCasm OfCode (readings sources.
 abbrev Ordered : Command → SourceReadings → Answer → Type 0
 Ordered (commands.Check check) readings answer = Starting (commands.Check check) readings answer
 Ordered (commands.Run execute) readings answer = Starting (commands.Run execute) readings answer
+Ordered (commands.Gas gas) readings answer = Planning readings answer
 Ordered (commands.Show show) readings answer = Showing readings answer
 Ordered (commands.Asm assemble) readings answer = Assembling readings answer
 Ordered commands.Planned readings answer = answer ≡ answers.NotBuilt
@@ -173,6 +182,7 @@ after_gas_once (commands.Check check) readings program input a b p q =
     (λ bytes p q p_is q_is. one_run p q p_is.0 q_is.0 (sym p_is.1 ∙ q_is.1))
     (of_run_once program input) (readings sources.Run) a b p q
 after_gas_once (commands.Run execute) readings program input a b p q = p.2 ∙ ap answers.Ran (p.1 ∙ sym q.1) ∙ sym q.2
+after_gas_once (commands.Gas gas) readings program input a b p q = absurd p
 after_gas_once (commands.Show show) readings program input a b p q = absurd p
 after_gas_once (commands.Asm assemble) readings program input a b p q = absurd p
 after_gas_once commands.Planned readings program input a b p q = absurd p
@@ -211,6 +221,16 @@ fails_checks_once text a b p q =
     let other = q.1 in
     p.2 ∙ ap answers.ProgramRefused (one_program_refusal other.0 p.0 q.0 (subst (λ (t : Tree). checks.Refused t p.0) (same_tree text one.0 other.0 one.1 other.1) one.2) other.2) ∙ sym q.2
 
+no_checked_once : (text : List ℕ) (a b : Answer) → NoChecked text a → NoChecked text b → a ≡ b
+no_checked_once text a b (inl p) (inl q) = no_tree_once text a b p q
+no_checked_once text a b (inl p) (inr q) = absurd (never_tree text a q.1.0 p q.1.1)
+no_checked_once text a b (inr p) (inl q) = absurd (never_tree text b p.1.0 q p.1.1)
+no_checked_once text a b (inr p) (inr q) = fails_checks_once text a b p q
+
+never_passes : (text : List ℕ) (a : Answer) (tree : Tree) → NoChecked text a → IsCheckedTree text tree → ⊥
+never_passes text a tree (inl p) q = never_tree text a tree p q.0
+never_passes text a tree (inr p) q = never_checked text a tree p q
+
 no_program_once : (text : List ℕ) (a b : Answer) → NoProgram text a → NoProgram text b → a ≡ b
 no_program_once text a b (inl p) (inl q) = no_tree_once text a b p q
 no_program_once text a b (inl p) (inr (inl q)) = absurd (never_tree text a q.1.0 p q.1.1)
@@ -238,6 +258,12 @@ starting_once command readings =
     no_program_once never_program one_of_form
     (after_program_once command readings) (readings sources.Program)
 
+planning_once : (readings : SourceReadings) (a b : Answer) → Planning readings a → Planning readings b → a ≡ b
+planning_once readings =
+    stage_once sources.Program NoChecked IsCheckedTree OfPlan
+    no_checked_once never_passes (λ text a b p q. same_tree text a b p.0 q.0)
+    (λ tree a b p q. p.2 ∙ ap answers.Plan (one_gas_plan tree p.0 q.0 p.1 q.1) ∙ sym q.2) (readings sources.Program)
+
 showing_once : (readings : SourceReadings) (a b : Answer) → Showing readings a → Showing readings b → a ≡ b
 showing_once readings =
     stage_once sources.Program NoTree IsTree OfTree
@@ -255,6 +281,7 @@ assembling_once readings =
 ordered_once : (command : Command) (readings : SourceReadings) (a b : Answer) → Ordered command readings a → Ordered command readings b → a ≡ b
 ordered_once (commands.Check check) readings = starting_once (commands.Check check) readings
 ordered_once (commands.Run execute) readings = starting_once (commands.Run execute) readings
+ordered_once (commands.Gas gas) readings = planning_once readings
 ordered_once (commands.Show show) readings = showing_once readings
 ordered_once (commands.Asm assemble) readings = assembling_once readings
 ordered_once commands.Planned readings = λ a b p q. p ∙ sym q
@@ -265,22 +292,16 @@ ordered_once commands.Planned readings = λ a b p q. p ∙ sym q
 reads_input : (command : Command) (readings : SourceReadings) (a : Answer) → IsRead command sources.Input → Starting command readings a → Ordered command readings a
 reads_input (commands.Check check) readings a is p = p
 reads_input (commands.Run execute) readings a is p = p
+reads_input (commands.Gas gas) readings a is p = absurd cc
 reads_input (commands.Show show) readings a is p = absurd cc
 reads_input (commands.Asm assemble) readings a is p = absurd cc
 reads_input commands.Planned readings a is p = absurd cc
 
--- a command that goes by what a program means reads an input, as the commands are today, ..
-pub compiled_reads : (command : Command) → IsCompiled command → IsRead command sources.Input
-compiled_reads (commands.Check check) is = refl
-compiled_reads (commands.Run execute) is = refl
-compiled_reads (commands.Show show) is = absurd is
-compiled_reads (commands.Asm assemble) is = absurd is
-compiled_reads commands.Planned is = absurd is
-
--- .. and one that reads an input goes by what a program means
+-- a command that reads an input goes by what a program means
 pub reads_compiled : (command : Command) → IsRead command sources.Input → IsCompiled command
 reads_compiled (commands.Check check) is = tt
 reads_compiled (commands.Run execute) is = tt
+reads_compiled (commands.Gas gas) is = absurd cc
 reads_compiled (commands.Show show) is = absurd cc
 reads_compiled (commands.Asm assemble) is = absurd cc
 reads_compiled commands.Planned is = absurd cc
@@ -290,12 +311,26 @@ pub as_program : (given : Reading) (a : Answer) → IsRefused sources.Program No
 as_program given a (inl unfit) = inl unfit
 as_program given a (inr held) = inr (held.0, held.1, held.2, inl held.3)
 
+as_checked : (given : Reading) (a : Answer) → IsRefused sources.Program NoTree given a → IsRefused sources.Program NoChecked given a
+as_checked given a (inl unfit) = inl unfit
+as_checked given a (inr held) = inr (held.0, held.1, held.2, inl held.3)
+
 no_text_ordered : (command : Command) (readings : SourceReadings) (a : Answer) → IsRead command sources.Program → IsRefused sources.Program NoTree (readings sources.Program) a → Ordered command readings a
 no_text_ordered (commands.Check check) readings a is p = inl (as_program (readings sources.Program) a p)
 no_text_ordered (commands.Run execute) readings a is p = inl (as_program (readings sources.Program) a p)
+no_text_ordered (commands.Gas gas) readings a is p = inl (as_checked (readings sources.Program) a p)
 no_text_ordered (commands.Show show) readings a is p = inl p
 no_text_ordered (commands.Asm assemble) readings a is p = absurd cc
 no_text_ordered commands.Planned readings a is p = absurd cc
+
+-- .. and one that doesn't pass the checks by each that goes by what a program means
+refused_ordered : (command : Command) (readings : SourceReadings) (a : Answer) → IsCompiled command → Holds sources.Program (readings sources.Program) (λ text. FailsChecks text a) → Ordered command readings a
+refused_ordered (commands.Check check) readings a is p = inl (inr (p.0, p.1, p.2, inr (inl p.3)))
+refused_ordered (commands.Run execute) readings a is p = inl (inr (p.0, p.1, p.2, inr (inl p.3)))
+refused_ordered (commands.Gas gas) readings a is p = inl (inr (p.0, p.1, p.2, inr p.3))
+refused_ordered (commands.Show show) readings a is p = absurd is
+refused_ordered (commands.Asm assemble) readings a is p = absurd is
+refused_ordered commands.Planned readings a is p = absurd is
 
 -- .. from the program and the input on to the run
 abbrev RunStage : SourceReadings → Program → Input → Answer → Type 0
@@ -304,6 +339,7 @@ RunStage readings program input = Stage sources.Run NoRun IsRunFile (OfRun progr
 reads_run : (command : Command) (readings : SourceReadings) (program : Program) (input : Input) (a : Answer) → IsRead command sources.Run → CanRun readings program input → RunStage readings program input a → Ordered command readings a
 reads_run (commands.Check check) readings program input a is can p = inr (program, can.program_read, inr (input, can.input_read, inr (can.gas, p)))
 reads_run (commands.Run execute) readings program input a is can p = absurd cc
+reads_run (commands.Gas gas) readings program input a is can p = absurd cc
 reads_run (commands.Show show) readings program input a is can p = absurd cc
 reads_run (commands.Asm assemble) readings program input a is can p = absurd cc
 reads_run commands.Planned readings program input a is can p = absurd cc
@@ -311,6 +347,7 @@ reads_run commands.Planned readings program input a is can p = absurd cc
 reads_casm : (command : Command) (readings : SourceReadings) (a : Answer) → IsRead command sources.Casm → Assembling readings a → Ordered command readings a
 reads_casm (commands.Check check) readings a is p = absurd cc
 reads_casm (commands.Run execute) readings a is p = absurd cc
+reads_casm (commands.Gas gas) readings a is p = absurd cc
 reads_casm (commands.Show show) readings a is p = absurd cc
 reads_casm (commands.Asm assemble) readings a is p = p
 reads_casm commands.Planned readings a is p = absurd cc
@@ -332,14 +369,14 @@ ordered command readings (answers.Missing source) c = unfit_ordered command read
 ordered command readings (answers.ReadFault source) c = unfit_ordered command readings source (answers.ReadFault source) c.0 (inr (inl (c.1, refl)))
 ordered command readings (answers.TooLong source) c = unfit_ordered command readings source (answers.TooLong source) c.0 (inr (inr (c.1, refl)))
 ordered command readings answers.NotBuilt (inl p) = subst (λ (c : Command). Ordered c readings answers.NotBuilt) (sym p) refl
-ordered command readings answers.NotBuilt (inr (inl p)) = reads_input command readings answers.NotBuilt (compiled_reads command p.0) (inl (inr (p.1.0, p.1.1, p.1.2, inr (inr (p.1.3, refl)))))
+ordered command readings answers.NotBuilt (inr (inl p)) = reads_input command readings answers.NotBuilt p.0 (inl (inr (p.1.0, p.1.1, p.1.2, inr (inr (p.1.3, refl)))))
 ordered command readings answers.NotBuilt (inr (inr p)) = reads_input command readings answers.NotBuilt p.0 (inr (p.1, p.2, inl (inr (p.3.0, p.3.1, p.3.2, (p.3.3, refl)))))
 ordered command readings (answers.TextRefused fault) c =
     let held = c.1 in
     no_text_ordered command readings (answers.TextRefused fault) c.0 (inr (held.0, held.1, held.2, (fault, held.3, refl)))
 ordered command readings (answers.ProgramRefused refusal) c =
     let held = c.1 in
-    reads_input command readings (answers.ProgramRefused refusal) (compiled_reads command c.0) (inl (inr (held.0, held.1, held.2, inr (inl (refusal, held.3, refl)))))
+    refused_ordered command readings (answers.ProgramRefused refusal) c.0 (held.0, held.1, held.2, (refusal, held.3, refl))
 ordered command readings (answers.CasmRefused fault) c =
     let held = c.1 in
     reads_casm command readings (answers.CasmRefused fault) c.0 (inl (inr (held.0, held.1, held.2, (fault, held.3, refl))))
@@ -357,6 +394,8 @@ ordered command readings (answers.Ran file) c =
     let can = c.4 in
     subst (λ (c : Command). Ordered c readings (answers.Ran file)) (sym c.1)
     (inr (c.2, can.program_read, inr (c.3, can.input_read, inr (can.gas, (file, c.5, refl)))))
+ordered command readings (answers.Plan plan) c =
+    subst (λ (c : Command). Ordered c readings (answers.Plan plan)) (sym c.1) (inr (c.2, c.3, (plan, c.4, refl)))
 ordered command readings (answers.Printed text) c =
     subst (λ (c : Command). Ordered c readings (answers.Printed text)) (sym c.1) (inr (c.2, c.3, (text, c.4, refl)))
 ordered command readings (answers.Assembled code) c =
@@ -424,12 +463,18 @@ module _ (command : Command) (readings : SourceReadings)
       | inr refused ↦ none (answers.TextRefused refused.0) (reads, (text, is, within, refused.1))
     ])
 
-    -- .. its program is refused, or of no form that is built, or it can be run, ..
+    -- .. its program is refused or passes the checks, ..
+    no_checked : IsRead command sources.Program → IsCompiled command
+        → ((tree : Tree) (text : List ℕ) → readings sources.Program ≡ found text → length text ≤ limit sources.Program → IsCheckedTree text tree → ⊥) → ⊥
+    no_checked reads compiled more = no_tree reads (λ tree text is within sierra. passes_or_refused tree sierra.1.statements
+        (λ passes. more tree text is within (sierra, passes))
+        (λ refusal refused. none (answers.ProgramRefused refusal) (compiled, (text, is, within, (tree, sierra, refused)))))
+
+    -- .. is of no form that is built, or it can be run, ..
     no_program : IsRead command sources.Program → IsRead command sources.Input → ((program : Program) (input : Input) → CanRun readings program input → ⊥) → ⊥
-    no_program reads reads_input more = no_tree reads (λ tree text is within sierra. passes_or_refused tree sierra.1.statements
-        (λ passes. none answers.NotBuilt
-        (inr (inl (reads_compiled command reads_input, (text, is, within, (tree, (sierra, passes), λ program is_program. no_input reads_input more program (text, is, within, (tree, (sierra, passes), is_program))))))))
-        (λ refusal refused. none (answers.ProgramRefused refusal) (reads_compiled command reads_input, (text, is, within, (tree, sierra, refused)))))
+    no_program reads reads_input more = no_checked reads (reads_compiled command reads_input) (λ tree text is within checked.
+        none answers.NotBuilt
+        (inr (inl (reads_input, (text, is, within, (tree, checked, λ program is_program. no_input reads_input more program (text, is, within, (tree, checked, is_program))))))))
 
     -- .. and of code
     no_casm : IsRead command sources.Casm → ⊥
@@ -445,6 +490,11 @@ some_answer (Some (commands.Check check)) readings small none =
 some_answer (Some (commands.Run execute)) readings small none =
     no_program (commands.Run execute) readings small none refl refl
     (λ program input can. none (answers.Ran (spelling (honest_run program input))) (execute, refl, program, input, can, refl))
+some_answer (Some (commands.Gas gas)) readings small none =
+    no_checked (commands.Gas gas) readings small none refl tt
+    (λ tree text is within checked.
+    let passes = checked.1 in
+    none (answers.Plan passes.0.plan) (gas, refl, tree, (text, is, within, checked), (passes.0, passes.1, refl)))
 some_answer (Some (commands.Show show)) readings small none =
     no_tree (commands.Show show) readings small none refl
     (λ tree text is within sierra. none (answers.Printed (layout tree)) (show, refl, tree, (text, is, within, sierra), refl))

@@ -3,13 +3,6 @@ use Rattle.std.proofs.Common.{◌≡◌, ◌↔◌, ◌<◌, ◌≤◌, ◌-◌,
 use Rattle.std.specs.Prelude.{IsTrue}
 use Rattle.std.specs.Result.{is_ok}
 use Rattle.byte_reading.specs.Decimal.{decimal_text}
-use Rattle.sierra_tool.specs.declared.command.Assemble.{Assemble}
-use Rattle.sierra_tool.specs.declared.command.Check.{Check}
-use Rattle.sierra_tool.specs.declared.command.Command.{Command}
-use Rattle.sierra_tool.specs.declared.command.Command.TheVariants as commands
-use Rattle.sierra_tool.specs.declared.command.Execute.{Execute}
-use Rattle.sierra_tool.specs.declared.command.Show.{Show}
-use Rattle.sierra_tool.specs.Command.{IsCommand, IsPlanned}
 use Rattle.byte_reading.specs.declared.decimal.DecimalFault.{DecimalFault}
 
 -- a list of so many is its items
@@ -44,12 +37,3 @@ pub is_a_number : (text : List ℕ) (read : Result ℕ DecimalFault) (ok : Bool)
     → IsTrue ok ↔ ((number : ℕ) × (number < 2 ^ 64) × (text ∷ [] ≡ decimal_text number ∷ []))
 is_a_number text (Ok n) ok is number = (λ yes. let h = (number n).0 refl in (n, omega (arith, h.0), ap (λ x. x ∷ []) h.1), λ h. is)
 is_a_number text (Err fault) ok is number = (λ yes. absurd (cc (yes, is)), λ h. let read = (number h.0).1 (omega (arith, h.1), ap (λ xs. get_or xs 0 []) h.2) in absurd (cc (read)))
-
--- arguments that are none of the commands
-pub no_command : (arguments : List (List ℕ)) → ((check : Check) → IsCommand arguments (commands.Check check) → ⊥) → ((execute : Execute) → IsCommand arguments (commands.Run execute) → ⊥) → ((show : Show) → IsCommand arguments (commands.Show show) → ⊥)
-    → ((assemble : Assemble) → IsCommand arguments (commands.Asm assemble) → ⊥) → (IsPlanned arguments → ⊥) → (command : Command) → IsCommand arguments command → ⊥
-no_command arguments no_check no_execute no_show no_assemble not_planned (commands.Check check) is = no_check check is
-no_command arguments no_check no_execute no_show no_assemble not_planned (commands.Run execute) is = no_execute execute is
-no_command arguments no_check no_execute no_show no_assemble not_planned (commands.Show show) is = no_show show is
-no_command arguments no_check no_execute no_show no_assemble not_planned (commands.Asm assemble) is = no_assemble assemble is
-no_command arguments no_check no_execute no_show no_assemble not_planned commands.Planned is = not_planned is

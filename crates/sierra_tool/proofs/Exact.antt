@@ -18,9 +18,10 @@ use Rattle.first_form.specs.declared.program.Program.{Program}
 use Rattle.first_form.specs.declared.input.Input.{Input}
 use Rattle.first_form.specs.declared.verdict.Verdict.{Verdict}
 use Rattle.casm_word.specs.declared.instr.Instr.{Instr}
+use Rattle.gas_solver.specs.Plans.{PlanView}
 use Rattle.sierra_tool.specs.Causes.{Reading, absent, unread, found, SourceReadings, Gives, AreReadings, Holds, IsOfForm, CanRun, ComesTo, Cause}
 use Rattle.sierra_tool.specs.Command.{IsPlanned, IsCommand, Parses, name_of, IsRead, IsCompiled, status_of}
-use Rattle.sierra_tool.specs.Exact.{reading_of, readings_of, HasStart, HasRunThat, HasText, HasCasm, HasExactStatus, IsExact}
+use Rattle.sierra_tool.specs.Exact.{reading_of, readings_of, HasStart, HasRunThat, HasCheckedText, HasText, HasCasm, HasExactStatus, IsExact}
 use Rattle.sierra_tool.specs.Tool.{Tool}
 use Rattle.felt64.specs.Field.{modulus}
 use Rattle.first_form.specs.Meaning.{code_of}
@@ -28,11 +29,12 @@ use Rattle.first_form.specs.Runs.{IsAccepted}
 use Rattle.sierra_tool.specs.declared.command.Assemble.{Assemble}
 use Rattle.sierra_tool.specs.declared.command.Check.{Check}
 use Rattle.sierra_tool.specs.declared.command.Execute.{Execute}
+use Rattle.sierra_tool.specs.declared.command.Gas.{Gas}
 use Rattle.sierra_tool.specs.declared.command.Show.{Show}
 use Rattle.sierra_text.specs.Layout.{layout}
 use Rattle.first_form.specs.Honest.{honest_run}
 use Rattle.run_file.specs.Spelling.{spelling}
-use Rattle.sierra_tool.proofs.Causes.{one_answer, never_accepted, compiled_reads, reads_compiled}
+use Rattle.sierra_tool.proofs.Causes.{one_answer, never_accepted}
 use Rattle.first_form.proofs.DecidedRuns.{accepted_or_rejected}
 use Rattle.first_form.proofs.VerdictLaws.{some_verdict}
 
@@ -48,15 +50,14 @@ holds_over source is given other agrees held = (held.0, agrees (λ e. cc (held.1
 module _ (command other : Command) (readings others : SourceReadings)
     (same : (source : Source) → name_of (Some command) source ≡ name_of (Some other) source)
     (as_planned : command ≡ commands.Planned → other ≡ commands.Planned)
+    (as_gas : (gas : Gas) → command ≡ commands.Gas gas → (another : Gas) × (other ≡ commands.Gas another))
     (as_show : (show : Show) → command ≡ commands.Show show → (another : Show) × (other ≡ commands.Show another))
     (as_run : (execute : Execute) → command ≡ commands.Run execute → (another : Execute) × (other ≡ commands.Run another))
+    (compiled_over : IsCompiled command → IsCompiled other)
     (agrees : Agrees readings others)
   where
     read_over : (source : Source) → IsRead command source → IsRead other source
     read_over source is = subst (λ name. IsSome name) (same source) is
-
-    compiled_over : IsCompiled command → IsCompiled other
-    compiled_over is = reads_compiled other (read_over sources.Input (compiled_reads command is))
 
     held_over : (source : Source) (is : List ℕ → Type 0) → Holds source (readings source) is → Holds source (others source) is
     held_over source is = holds_over source is (readings source) (others source) (agrees source)
@@ -79,7 +80,7 @@ module _ (command other : Command) (readings others : SourceReadings)
         let long = c.1 in
         (comes_over source c.0, (long.0, agrees source (λ e. cc (long.1)) ∙ long.1, long.2))
     cause_over answers.NotBuilt calm (inl c) = inl (as_planned c)
-    cause_over answers.NotBuilt calm (inr (inl c)) = inr (inl (compiled_over c.0, held_over sources.Program _ c.1))
+    cause_over answers.NotBuilt calm (inr (inl c)) = inr (inl (read_over sources.Input c.0, held_over sources.Program _ c.1))
     cause_over answers.NotBuilt calm (inr (inr c)) = inr (inr (read_over sources.Input c.0, c.1, held_over sources.Program _ c.2, held_over sources.Input _ c.3))
     cause_over (answers.TextRefused fault) calm c = (read_over sources.Program c.0, held_over sources.Program _ c.1)
     cause_over (answers.ProgramRefused refusal) calm c = (compiled_over c.0, held_over sources.Program _ c.1)
@@ -90,6 +91,7 @@ module _ (command other : Command) (readings others : SourceReadings)
     cause_over (answers.RunRejected fault) calm c = (read_over sources.Run c.0, c.1, c.2, c.3, can_over c.1 c.2 c.4, held_over sources.Run _ c.5, c.6)
     cause_over (answers.Judged verdict) calm c = (read_over sources.Run c.0, c.1, c.2, c.3, can_over c.1 c.2 c.4, held_over sources.Run _ c.5, c.6, c.7)
     cause_over (answers.Ran file) calm c = let run = as_run c.0 c.1 in (run.0, run.1, c.2, c.3, can_over c.2 c.3 c.4, c.5)
+    cause_over (answers.Plan plan) calm c = let gas = as_gas c.0 c.1 in (gas.0, gas.1, c.2, held_over sources.Program _ c.3, c.4)
     cause_over (answers.Printed text) calm c = let show = as_show c.0 c.1 in (show.0, show.1, c.2, held_over sources.Program _ c.3, c.4)
     cause_over (answers.Assembled code) calm c = (read_over sources.Casm c.0, held_over sources.Casm _ c.1)
 
@@ -97,6 +99,8 @@ module _ (command other : Command) (readings others : SourceReadings)
 pub record Alike (command other : Command) : Type 0 where
   pub names : (source : Source) → name_of (Some command) source ≡ name_of (Some other) source
   pub planned : command ≡ commands.Planned → other ≡ commands.Planned
+  pub compiled : IsCompiled command → IsCompiled other
+  pub gas : (gas : Gas) → command ≡ commands.Gas gas → (another : Gas) × (other ≡ commands.Gas another)
   pub show : (show : Show) → command ≡ commands.Show show → (another : Show) × (other ≡ commands.Show another)
   pub run : (execute : Execute) → command ≡ commands.Run execute → (another : Execute) × (other ≡ commands.Run another)
 
@@ -109,81 +113,102 @@ two_words word one other others more is other_is differ =
     clash : true ≡ false → ⊥
     clash e = absurd cc
 
+-- arguments have one first word
+two_firsts : (arguments : List (List ℕ)) (one other : List ℕ) (others more : List (List ℕ)) → arguments ≡ one ∷ others → arguments ≡ other ∷ more → bytes_eq other one ≡ false → ⊥
+two_firsts arguments one other others more is other_is differ = two_words one other one others more (sym is ∙ other_is) refl differ
+
 -- a command that is built isn't one that is planned
 built_not_planned : (arguments : List (List ℕ)) (command : Command) → command ≢ commands.Planned → IsCommand arguments command → IsPlanned arguments → ⊥
 built_not_planned [] command built is planned = planned
 built_not_planned (word ∷ others) (commands.Check check) built is (inl p) = two_words word (codes "check") (codes "compile") others _ is p.0 refl
-built_not_planned (word ∷ others) (commands.Check check) built is (inr (inl p)) = two_words word (codes "check") (codes "gas") others _ is p.0 refl
-built_not_planned (word ∷ others) (commands.Check check) built is (inr (inr (inl p))) = two_words word (codes "check") (codes "eval") others _ is p.0 refl
-built_not_planned (word ∷ others) (commands.Check check) built is (inr (inr (inr (inl p)))) = two_words word (codes "check") (codes "run") others _ is p.0 refl
-built_not_planned (word ∷ others) (commands.Check check) built is (inr (inr (inr (inr p)))) = two_words word (codes "check") (codes "make") others _ is p.0 refl
+built_not_planned (word ∷ others) (commands.Check check) built is (inr (inl p)) = two_words word (codes "check") (codes "eval") others _ is p.0 refl
+built_not_planned (word ∷ others) (commands.Check check) built is (inr (inr (inl p))) = two_words word (codes "check") (codes "run") others _ is p.0 refl
+built_not_planned (word ∷ others) (commands.Check check) built is (inr (inr (inr p))) = two_words word (codes "check") (codes "make") others _ is p.0 refl
 built_not_planned (word ∷ others) (commands.Run execute) built is (inl p) = two_words word (codes "run") (codes "compile") others _ is p.0 refl
-built_not_planned (word ∷ others) (commands.Run execute) built is (inr (inl p)) = two_words word (codes "run") (codes "gas") others _ is p.0 refl
-built_not_planned (word ∷ others) (commands.Run execute) built is (inr (inr (inl p))) = two_words word (codes "run") (codes "eval") others _ is p.0 refl
-built_not_planned (word ∷ others) (commands.Run execute) built is (inr (inr (inr (inl p)))) =
+built_not_planned (word ∷ others) (commands.Run execute) built is (inr (inl p)) = two_words word (codes "run") (codes "eval") others _ is p.0 refl
+built_not_planned (word ∷ others) (commands.Run execute) built is (inr (inr (inl p))) =
     let three : length (word ∷ others) ≡ 3 = ap length is in absurd (omega (arith, p.1, three))
-built_not_planned (word ∷ others) (commands.Run execute) built is (inr (inr (inr (inr p)))) = two_words word (codes "run") (codes "make") others _ is p.0 refl
+built_not_planned (word ∷ others) (commands.Run execute) built is (inr (inr (inr p))) = two_words word (codes "run") (codes "make") others _ is p.0 refl
+built_not_planned (word ∷ others) (commands.Gas gas) built is (inl p) = two_words word (codes "gas") (codes "compile") others _ is p.0 refl
+built_not_planned (word ∷ others) (commands.Gas gas) built is (inr (inl p)) = two_words word (codes "gas") (codes "eval") others _ is p.0 refl
+built_not_planned (word ∷ others) (commands.Gas gas) built is (inr (inr (inl p))) = two_words word (codes "gas") (codes "run") others _ is p.0 refl
+built_not_planned (word ∷ others) (commands.Gas gas) built is (inr (inr (inr p))) = two_words word (codes "gas") (codes "make") others _ is p.0 refl
 built_not_planned (word ∷ others) (commands.Show show) built is (inl p) = two_words word (codes "show") (codes "compile") others _ is p.0 refl
-built_not_planned (word ∷ others) (commands.Show show) built is (inr (inl p)) = two_words word (codes "show") (codes "gas") others _ is p.0 refl
-built_not_planned (word ∷ others) (commands.Show show) built is (inr (inr (inl p))) = two_words word (codes "show") (codes "eval") others _ is p.0 refl
-built_not_planned (word ∷ others) (commands.Show show) built is (inr (inr (inr (inl p)))) = two_words word (codes "show") (codes "run") others _ is p.0 refl
-built_not_planned (word ∷ others) (commands.Show show) built is (inr (inr (inr (inr p)))) = two_words word (codes "show") (codes "make") others _ is p.0 refl
+built_not_planned (word ∷ others) (commands.Show show) built is (inr (inl p)) = two_words word (codes "show") (codes "eval") others _ is p.0 refl
+built_not_planned (word ∷ others) (commands.Show show) built is (inr (inr (inl p))) = two_words word (codes "show") (codes "run") others _ is p.0 refl
+built_not_planned (word ∷ others) (commands.Show show) built is (inr (inr (inr p))) = two_words word (codes "show") (codes "make") others _ is p.0 refl
 built_not_planned (word ∷ others) (commands.Asm assemble) built is (inl p) = two_words word (codes "asm") (codes "compile") others _ is p.0 refl
-built_not_planned (word ∷ others) (commands.Asm assemble) built is (inr (inl p)) = two_words word (codes "asm") (codes "gas") others _ is p.0 refl
-built_not_planned (word ∷ others) (commands.Asm assemble) built is (inr (inr (inl p))) = two_words word (codes "asm") (codes "eval") others _ is p.0 refl
-built_not_planned (word ∷ others) (commands.Asm assemble) built is (inr (inr (inr (inl p)))) = two_words word (codes "asm") (codes "run") others _ is p.0 refl
-built_not_planned (word ∷ others) (commands.Asm assemble) built is (inr (inr (inr (inr p)))) = two_words word (codes "asm") (codes "make") others _ is p.0 refl
+built_not_planned (word ∷ others) (commands.Asm assemble) built is (inr (inl p)) = two_words word (codes "asm") (codes "eval") others _ is p.0 refl
+built_not_planned (word ∷ others) (commands.Asm assemble) built is (inr (inr (inl p))) = two_words word (codes "asm") (codes "run") others _ is p.0 refl
+built_not_planned (word ∷ others) (commands.Asm assemble) built is (inr (inr (inr p))) = two_words word (codes "asm") (codes "make") others _ is p.0 refl
 built_not_planned (word ∷ others) commands.Planned built is p = built refl
 
 pub alike : (arguments : List (List ℕ)) (command other : Command) → IsCommand arguments command → IsCommand arguments other → Alike command other
-alike arguments (commands.Check check) (commands.Check other) p q = record { names = names; planned = λ e. absurd cc; show = λ show e. absurd cc; run = λ execute e. absurd cc }
+alike arguments (commands.Check check) (commands.Check other) p q = record { names = names; planned = λ e. absurd cc; compiled = λ is. is; gas = λ gas e. absurd cc; show = λ show e. absurd cc; run = λ execute e. absurd cc }
   where
     names : (source : Source) → name_of (Some (commands.Check check)) source ≡ name_of (Some (commands.Check other)) source
     names sources.Program = cc
     names sources.Input = cc
     names sources.Run = cc
     names sources.Casm = refl
-alike arguments (commands.Run execute) (commands.Run other) p q = record { names = names; planned = λ e. absurd cc; show = λ show e. absurd cc; run = λ execute e. (other, refl) }
+alike arguments (commands.Run execute) (commands.Run other) p q = record { names = names; planned = λ e. absurd cc; compiled = λ is. is; gas = λ gas e. absurd cc; show = λ show e. absurd cc; run = λ execute e. (other, refl) }
   where
     names : (source : Source) → name_of (Some (commands.Run execute)) source ≡ name_of (Some (commands.Run other)) source
     names sources.Program = cc
     names sources.Input = cc
     names sources.Run = refl
     names sources.Casm = refl
-alike arguments (commands.Show show) (commands.Show other) p q = record { names = names; planned = λ e. absurd cc; show = λ show e. (other, refl); run = λ execute e. absurd cc }
+alike arguments (commands.Gas gas) (commands.Gas other) p q = record { names = names; planned = λ e. absurd cc; compiled = λ is. is; gas = λ gas e. (other, refl); show = λ show e. absurd cc; run = λ execute e. absurd cc }
+  where
+    names : (source : Source) → name_of (Some (commands.Gas gas)) source ≡ name_of (Some (commands.Gas other)) source
+    names sources.Program = cc
+    names sources.Input = refl
+    names sources.Run = refl
+    names sources.Casm = refl
+alike arguments (commands.Show show) (commands.Show other) p q = record { names = names; planned = λ e. absurd cc; compiled = λ is. is; gas = λ gas e. absurd cc; show = λ show e. (other, refl); run = λ execute e. absurd cc }
   where
     names : (source : Source) → name_of (Some (commands.Show show)) source ≡ name_of (Some (commands.Show other)) source
     names sources.Program = cc
     names sources.Input = refl
     names sources.Run = refl
     names sources.Casm = refl
-alike arguments (commands.Asm assemble) (commands.Asm other) p q = record { names = names; planned = λ e. absurd cc; show = λ show e. absurd cc; run = λ execute e. absurd cc }
+alike arguments (commands.Asm assemble) (commands.Asm other) p q = record { names = names; planned = λ e. absurd cc; compiled = λ is. is; gas = λ gas e. absurd cc; show = λ show e. absurd cc; run = λ execute e. absurd cc }
   where
     names : (source : Source) → name_of (Some (commands.Asm assemble)) source ≡ name_of (Some (commands.Asm other)) source
     names sources.Program = refl
     names sources.Input = refl
     names sources.Run = refl
     names sources.Casm = cc
-alike arguments commands.Planned commands.Planned p q = record { names = λ source. refl; planned = λ e. refl; show = λ show e. absurd cc; run = λ execute e. absurd cc }
+alike arguments commands.Planned commands.Planned p q = record { names = λ source. refl; planned = λ e. refl; compiled = λ is. is; gas = λ gas e. absurd cc; show = λ show e. absurd cc; run = λ execute e. absurd cc }
 alike arguments commands.Planned (commands.Check check) p q = absurd (built_not_planned arguments (commands.Check check) (λ e. cc) q p)
 alike arguments (commands.Check check) commands.Planned p q = absurd (built_not_planned arguments (commands.Check check) (λ e. cc) p q)
 alike arguments commands.Planned (commands.Run execute) p q = absurd (built_not_planned arguments (commands.Run execute) (λ e. cc) q p)
 alike arguments (commands.Run execute) commands.Planned p q = absurd (built_not_planned arguments (commands.Run execute) (λ e. cc) p q)
+alike arguments commands.Planned (commands.Gas gas) p q = absurd (built_not_planned arguments (commands.Gas gas) (λ e. cc) q p)
+alike arguments (commands.Gas gas) commands.Planned p q = absurd (built_not_planned arguments (commands.Gas gas) (λ e. cc) p q)
 alike arguments commands.Planned (commands.Show show) p q = absurd (built_not_planned arguments (commands.Show show) (λ e. cc) q p)
 alike arguments (commands.Show show) commands.Planned p q = absurd (built_not_planned arguments (commands.Show show) (λ e. cc) p q)
 alike arguments commands.Planned (commands.Asm assemble) p q = absurd (built_not_planned arguments (commands.Asm assemble) (λ e. cc) q p)
 alike arguments (commands.Asm assemble) commands.Planned p q = absurd (built_not_planned arguments (commands.Asm assemble) (λ e. cc) p q)
 alike arguments (commands.Check check) (commands.Run execute) p q = absurd cc
+alike arguments (commands.Check check) (commands.Gas gas) p q = absurd cc
 alike arguments (commands.Check check) (commands.Show show) p q = absurd cc
 alike arguments (commands.Check check) (commands.Asm assemble) p q = absurd cc
 alike arguments (commands.Run execute) (commands.Check check) p q = absurd cc
+alike arguments (commands.Run execute) (commands.Gas gas) p q = absurd cc
 alike arguments (commands.Run execute) (commands.Show show) p q = absurd cc
 alike arguments (commands.Run execute) (commands.Asm assemble) p q = absurd cc
+alike arguments (commands.Gas gas) (commands.Check check) p q = absurd cc
+alike arguments (commands.Gas gas) (commands.Run execute) p q = absurd cc
+alike arguments (commands.Gas gas) (commands.Show show) p q = absurd cc
+alike arguments (commands.Gas gas) (commands.Asm assemble) p q = absurd (two_firsts arguments (codes "gas") (codes "asm") (gas.program.now ∷ []) (assemble.file.now ∷ []) p q refl)
 alike arguments (commands.Show show) (commands.Check check) p q = absurd cc
 alike arguments (commands.Show show) (commands.Run execute) p q = absurd cc
+alike arguments (commands.Show show) (commands.Gas gas) p q = absurd cc
 alike arguments (commands.Show show) (commands.Asm assemble) p q = absurd cc
 alike arguments (commands.Asm assemble) (commands.Check check) p q = absurd cc
 alike arguments (commands.Asm assemble) (commands.Run execute) p q = absurd cc
+alike arguments (commands.Asm assemble) (commands.Gas gas) p q = absurd (two_firsts arguments (codes "asm") (codes "gas") (assemble.file.now ∷ []) (gas.program.now ∷ []) p q refl)
 alike arguments (commands.Asm assemble) (commands.Show show) p q = absurd cc
 
 same_names : (arguments : List (List ℕ)) (command other : Option Command) → Parses arguments command → Parses arguments other → (source : Source) → name_of command source ≡ name_of other source
@@ -198,7 +223,7 @@ same_cause arguments None (Some other) readings others answer p q agrees calm c 
 same_cause arguments (Some command) None readings others answer p q agrees calm c = absurd (q command p)
 same_cause arguments (Some command) (Some other) readings others answer p q agrees calm c =
     let same = alike arguments command other p q in
-    cause_over command other readings others same.names same.planned same.show same.run agrees answer calm c
+    cause_over command other readings others same.names same.planned same.gas same.show same.run same.compiled agrees answer calm c
 
 -- arguments that are a run are no other command, and no run of other names
 pub run_alone : (arguments : List (List ℕ)) (command : Option Command) (execute : Execute) → Parses arguments command → IsCommand arguments (commands.Run execute) → (another : Execute) × (command ≡ Some (commands.Run another)) × IsCommand arguments (commands.Run another)
@@ -230,14 +255,16 @@ abbrev pub OfZero : Answer → Type 0
 OfZero answer =
     ((verdict : Verdict) × (answer ≡ answers.Judged verdict))
     ⊎ ((file : List ℕ) × (answer ≡ answers.Ran file))
+    ⊎ ((plan : PlanView) × (answer ≡ answers.Plan plan))
     ⊎ ((text : List ℕ) × (answer ≡ answers.Printed text))
     ⊎ ((code : List Instr) × (answer ≡ answers.Assembled code))
 
 pub of_zero : (answer : Answer) → status_of answer ≡ 0 → OfZero answer
 of_zero (answers.Judged verdict) e = inl (verdict, refl)
 of_zero (answers.Ran file) e = inr (inl (file, refl))
-of_zero (answers.Printed text) e = inr (inr (inl (text, refl)))
-of_zero (answers.Assembled code) e = inr (inr (inr (code, refl)))
+of_zero (answers.Plan plan) e = inr (inr (inl (plan, refl)))
+of_zero (answers.Printed text) e = inr (inr (inr (inl (text, refl))))
+of_zero (answers.Assembled code) e = inr (inr (inr (inr (code, refl))))
 of_zero answers.Usage e = absurd (omega (arith, e))
 of_zero (answers.Missing source) e = absurd (omega (arith, e))
 of_zero (answers.ReadFault source) e = absurd (omega (arith, e))
@@ -255,7 +282,8 @@ zero_accepted : (check : Check) (readings : SourceReadings) (answer : Answer) �
 zero_accepted check readings answer (inl zero) c = let d = subst (Cause (Some (commands.Check check)) readings) zero.1 c in (d.1, d.2, d.3, d.4, d.5, d.6)
 zero_accepted check readings answer (inr (inl zero)) c = let d = subst (Cause (Some (commands.Check check)) readings) zero.1 c in absurd (cc (d.1))
 zero_accepted check readings answer (inr (inr (inl zero))) c = let d = subst (Cause (Some (commands.Check check)) readings) zero.1 c in absurd (cc (d.1))
-zero_accepted check readings answer (inr (inr (inr zero))) c = let d = subst (Cause (Some (commands.Check check)) readings) zero.1 c in absurd (cc (d.0))
+zero_accepted check readings answer (inr (inr (inr (inl zero)))) c = let d = subst (Cause (Some (commands.Check check)) readings) zero.1 c in absurd (cc (d.1))
+zero_accepted check readings answer (inr (inr (inr (inr zero)))) c = let d = subst (Cause (Some (commands.Check check)) readings) zero.1 c in absurd (cc (d.0))
 
 -- .. to `run` a program and an input that can be run, and the honest run's file, ..
 abbrev pub RanFile : SourceReadings → Answer → Type 0
@@ -265,27 +293,60 @@ pub zero_ran : (execute : Execute) (readings : SourceReadings) (answer : Answer)
 zero_ran execute readings answer (inl zero) c = let d = subst (Cause (Some (commands.Run execute)) readings) zero.1 c in absurd (cc (d.0))
 zero_ran execute readings answer (inr (inl zero)) c = let d = subst (Cause (Some (commands.Run execute)) readings) zero.1 c in (zero.0, zero.1, d.2, d.3, d.4, d.5)
 zero_ran execute readings answer (inr (inr (inl zero))) c = let d = subst (Cause (Some (commands.Run execute)) readings) zero.1 c in absurd (cc (d.1))
-zero_ran execute readings answer (inr (inr (inr zero))) c = let d = subst (Cause (Some (commands.Run execute)) readings) zero.1 c in absurd (cc (d.0))
+zero_ran execute readings answer (inr (inr (inr (inl zero)))) c = let d = subst (Cause (Some (commands.Run execute)) readings) zero.1 c in absurd (cc (d.1))
+zero_ran execute readings answer (inr (inr (inr (inr zero)))) c = let d = subst (Cause (Some (commands.Run execute)) readings) zero.1 c in absurd (cc (d.0))
+
+-- .. to `gas` the tree of a program that isn't refused, ..
+zero_planned : (gas : Gas) (readings : SourceReadings) (answer : Answer) → OfZero answer → Cause (Some (commands.Gas gas)) readings answer → HasCheckedText readings
+zero_planned gas readings answer (inl zero) c = let d = subst (Cause (Some (commands.Gas gas)) readings) zero.1 c in absurd (cc (d.0))
+zero_planned gas readings answer (inr (inl zero)) c = let d = subst (Cause (Some (commands.Gas gas)) readings) zero.1 c in absurd (cc (d.1))
+zero_planned gas readings answer (inr (inr (inl zero))) c = let d = subst (Cause (Some (commands.Gas gas)) readings) zero.1 c in (d.2, d.3)
+zero_planned gas readings answer (inr (inr (inr (inl zero)))) c = let d = subst (Cause (Some (commands.Gas gas)) readings) zero.1 c in absurd (cc (d.1))
+zero_planned gas readings answer (inr (inr (inr (inr zero)))) c = let d = subst (Cause (Some (commands.Gas gas)) readings) zero.1 c in absurd (cc (d.0))
 
 -- .. to `show` a program's tree, ..
 zero_printed : (show : Show) (readings : SourceReadings) (answer : Answer) → OfZero answer → Cause (Some (commands.Show show)) readings answer → HasText readings
 zero_printed show readings answer (inl zero) c = let d = subst (Cause (Some (commands.Show show)) readings) zero.1 c in absurd (cc (d.0))
 zero_printed show readings answer (inr (inl zero)) c = let d = subst (Cause (Some (commands.Show show)) readings) zero.1 c in absurd (cc (d.1))
-zero_printed show readings answer (inr (inr (inl zero))) c = let d = subst (Cause (Some (commands.Show show)) readings) zero.1 c in (d.2, d.3)
-zero_printed show readings answer (inr (inr (inr zero))) c = let d = subst (Cause (Some (commands.Show show)) readings) zero.1 c in absurd (cc (d.0))
+zero_printed show readings answer (inr (inr (inl zero))) c = let d = subst (Cause (Some (commands.Show show)) readings) zero.1 c in absurd (cc (d.1))
+zero_printed show readings answer (inr (inr (inr (inl zero)))) c = let d = subst (Cause (Some (commands.Show show)) readings) zero.1 c in (d.2, d.3)
+zero_printed show readings answer (inr (inr (inr (inr zero)))) c = let d = subst (Cause (Some (commands.Show show)) readings) zero.1 c in absurd (cc (d.0))
 
 -- .. and to `asm` code
 zero_assembled : (assemble : Assemble) (readings : SourceReadings) (answer : Answer) → OfZero answer → Cause (Some (commands.Asm assemble)) readings answer → HasCasm readings
 zero_assembled assemble readings answer (inl zero) c = let d = subst (Cause (Some (commands.Asm assemble)) readings) zero.1 c in absurd (cc (d.0))
 zero_assembled assemble readings answer (inr (inl zero)) c = let d = subst (Cause (Some (commands.Asm assemble)) readings) zero.1 c in absurd (cc (d.1))
 zero_assembled assemble readings answer (inr (inr (inl zero))) c = let d = subst (Cause (Some (commands.Asm assemble)) readings) zero.1 c in absurd (cc (d.1))
-zero_assembled assemble readings answer (inr (inr (inr zero))) c = let d = subst (Cause (Some (commands.Asm assemble)) readings) zero.1 c in (zero.0, d.1)
+zero_assembled assemble readings answer (inr (inr (inr (inl zero)))) c = let d = subst (Cause (Some (commands.Asm assemble)) readings) zero.1 c in absurd (cc (d.1))
+zero_assembled assemble readings answer (inr (inr (inr (inr zero)))) c = let d = subst (Cause (Some (commands.Asm assemble)) readings) zero.1 c in (zero.0, d.1)
+
+-- `gas` has no answer of status 9
+never_nine : (gas : Gas) (readings : SourceReadings) (answer : Answer) → status_of answer ≡ 9 → Cause (Some (commands.Gas gas)) readings answer → ⊥
+never_nine gas readings answers.NotBuilt e (inl c) = absurd (cc (c))
+never_nine gas readings answers.NotBuilt e (inr (inl c)) = absurd (cc (c.0))
+never_nine gas readings answers.NotBuilt e (inr (inr c)) = absurd (cc (c.0))
+never_nine gas readings (answers.Judged verdict) e c = absurd (omega (arith, e))
+never_nine gas readings (answers.Ran file) e c = absurd (omega (arith, e))
+never_nine gas readings (answers.Plan plan) e c = absurd (omega (arith, e))
+never_nine gas readings (answers.Printed text) e c = absurd (omega (arith, e))
+never_nine gas readings (answers.Assembled code) e c = absurd (omega (arith, e))
+never_nine gas readings answers.Usage e c = absurd (omega (arith, e))
+never_nine gas readings (answers.Missing source) e c = absurd (omega (arith, e))
+never_nine gas readings (answers.ReadFault source) e c = absurd (omega (arith, e))
+never_nine gas readings (answers.TooLong source) e c = absurd (omega (arith, e))
+never_nine gas readings (answers.TextRefused fault) e c = absurd (omega (arith, e))
+never_nine gas readings (answers.CasmRefused fault) e c = absurd (omega (arith, e))
+never_nine gas readings (answers.ProgramRefused refusal) e c = absurd (omega (arith, e))
+never_nine gas readings (answers.NotEnoughGas need given) e c = absurd (omega (arith, e))
+never_nine gas readings (answers.RunRefused refusal) e c = absurd (omega (arith, e))
+never_nine gas readings (answers.RunRejected fault) e c = absurd (omega (arith, e))
 
 -- an answer of status 15 has a run that isn't accepted
 fifteen_rejected : (command : Command) (readings : SourceReadings) (answer : Answer) → status_of answer ≡ 15 → Cause (Some command) readings answer → HasRunThat readings (λ program input run. IsAccepted program input run → ⊥)
 fifteen_rejected command readings (answers.RunRejected fault) e c = (c.1, c.2, c.3, c.4, c.5, never_accepted c.1 c.2 c.3 fault c.6)
 fifteen_rejected command readings (answers.Judged verdict) e c = absurd (omega (arith, e))
 fifteen_rejected command readings (answers.Ran file) e c = absurd (omega (arith, e))
+fifteen_rejected command readings (answers.Plan plan) e c = absurd (omega (arith, e))
 fifteen_rejected command readings (answers.Printed text) e c = absurd (omega (arith, e))
 fifteen_rejected command readings (answers.Assembled code) e c = absurd (omega (arith, e))
 fifteen_rejected command readings answers.Usage e c = absurd c
@@ -321,7 +382,13 @@ rejected_fifteen check readings (program, input, run, can, has, refused) =
 start_zero : (execute : Execute) (readings : SourceReadings) → HasStart readings → HasAnswer (Some (commands.Run execute)) readings 0
 start_zero execute readings (program, input, can) = (answers.Ran (spelling (honest_run program input)), refl, (execute, refl, program, input, can, refl))
 
--- .. so has a program's text, ..
+-- .. so has the text of a program that isn't refused, ..
+checked_zero : (gas : Gas) (readings : SourceReadings) → HasCheckedText readings → HasAnswer (Some (commands.Gas gas)) readings 0
+checked_zero gas readings (tree, held) =
+    let passes = held.3.1 in
+    (answers.Plan passes.0.plan, refl, (gas, refl, tree, held, (passes.0, passes.1, refl)))
+
+-- .. a program's text, ..
 text_zero : (show : Show) (readings : SourceReadings) → HasText readings → HasAnswer (Some (commands.Show show)) readings 0
 text_zero show readings (tree, held) = (answers.Printed (layout tree), refl, (show, refl, tree, held, refl))
 
@@ -350,6 +417,11 @@ by_answers files command status each =
         λ e. let h = of_command (commands.Run execute) 0 is ((each 0).0 e) in let ran = zero_ran execute readings h.0 (of_zero h.0 h.1) h.2 in (ran.2, ran.3, ran.4),
         λ h. (each 0).1 (subst (λ (c : Option Command). HasAnswer c readings 0) (sym is) (start_zero execute readings h)),
       );
+      planned = λ gas is. (
+        λ e. let h = of_command (commands.Gas gas) 0 is ((each 0).0 e) in zero_planned gas readings h.0 (of_zero h.0 h.1) h.2,
+        λ h. (each 0).1 (subst (λ (c : Option Command). HasAnswer c readings 0) (sym is) (checked_zero gas readings h)),
+      );
+      built = λ gas is e. let h = of_command (commands.Gas gas) 9 is ((each 9).0 e) in never_nine gas readings h.0 h.1 h.2;
       printed = λ show is. (
         λ e. let h = of_command (commands.Show show) 0 is ((each 0).0 e) in zero_printed show readings h.0 (of_zero h.0 h.1) h.2,
         λ h. (each 0).1 (subst (λ (c : Option Command). HasAnswer c readings 0) (sym is) (text_zero show readings h)),

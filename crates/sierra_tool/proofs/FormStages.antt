@@ -14,9 +14,9 @@ use Rattle.sierra_tool.specs.Causes.{absent, IsTree}
 use Rattle.sierra_tool.specs.Stages.{Stops, IsRefused, NoTree, NoProgram, ReadsSource, PassesChecks}
 use Rattle.sierra_tool.specs.Tool.{IsCounted}
 use Rattle.sierra_tool.proofs.Causes.{as_program}
-use Rattle.sierra_tool.proofs.Showing.{TakesTree}
 use Rattle.sierra_tool.proofs.Stages.{held_present, uncounted}
 use Rattle.sierra_tool.proofs.Starting.{TakesProgram}
+use Rattle.sierra_tool.proofs.Trees.{TakesTree}
 
 module _ (before now : FilesView) (name : List ℕ) where
   abbrev ReadsTree : Result Tree Stop → Type 0

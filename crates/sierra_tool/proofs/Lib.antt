@@ -5,7 +5,9 @@ pub mod CommandLaws
 pub mod Exact
 pub mod FormStages
 pub mod Headline
+pub mod Planning
 pub mod Showing
 pub mod Stages
 pub mod Starting
+pub mod Trees
 pub mod WordLines

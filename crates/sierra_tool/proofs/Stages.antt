@@ -224,6 +224,7 @@ begins before command = record { keeps = record { contents = refl; faults = omeg
 pub program_present : (known : Option FileMap) (command : Command) (readings : SourceReadings) → AreReadings known (Some command) readings → IsRead command sources.Program → readings sources.Program ≢ absent → MayHaveFirst known (Some command)
 program_present known (commands.Check check) readings given is present = may_be_there known check.program.now (readings sources.Program) (given sources.Program) present
 program_present known (commands.Run execute) readings given is present = may_be_there known execute.program.now (readings sources.Program) (given sources.Program) present
+program_present known (commands.Gas gas) readings given is present = may_be_there known gas.program.now (readings sources.Program) (given sources.Program) present
 program_present known (commands.Show show) readings given is present = may_be_there known show.program.now (readings sources.Program) (given sources.Program) present
 program_present known (commands.Asm assemble) readings given is present = absurd cc
 program_present known commands.Planned readings given is present = absurd cc
@@ -240,6 +241,8 @@ first_may_be_there known (commands.Check check) readings answer given cause not_
     program_present known (commands.Check check) readings given refl (λ is. not_missing sources.Program (one_answer (Some (commands.Check check)) readings answer (answers.Missing sources.Program) cause (refl, is)))
 first_may_be_there known (commands.Run execute) readings answer given cause not_missing =
     program_present known (commands.Run execute) readings given refl (λ is. not_missing sources.Program (one_answer (Some (commands.Run execute)) readings answer (answers.Missing sources.Program) cause (refl, is)))
+first_may_be_there known (commands.Gas gas) readings answer given cause not_missing =
+    program_present known (commands.Gas gas) readings given refl (λ is. not_missing sources.Program (one_answer (Some (commands.Gas gas)) readings answer (answers.Missing sources.Program) cause (refl, is)))
 first_may_be_there known (commands.Show show) readings answer given cause not_missing =
     program_present known (commands.Show show) readings given refl (λ is. not_missing sources.Program (one_answer (Some (commands.Show show)) readings answer (answers.Missing sources.Program) cause (refl, is)))
 first_may_be_there known (commands.Asm assemble) readings answer given cause not_missing =

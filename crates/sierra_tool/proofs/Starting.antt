@@ -39,7 +39,7 @@ module _ (before middle : FilesView) (command : Command) (name : List ℕ) (is :
           | inl no_text ↦ subst (Cause (Some command) readings) (sym no_text.2) (reads, (held.0, held.1, held.2, no_text.1))
           | inr behind ↦ elim behind [
             | inl refused ↦ subst (Cause (Some command) readings) (sym refused.2) (reads_compiled command reads_input, (held.0, held.1, held.2, refused.1))
-            | inr no_form ↦ subst (Cause (Some command) readings) (sym no_form.1) (inr (inl (reads_compiled command reads_input, (held.0, held.1, held.2, no_form.0))))
+            | inr no_form ↦ subst (Cause (Some command) readings) (sym no_form.1) (inr (inl (reads_input, (held.0, held.1, held.2, no_form.0))))
           ]
         ]
       ] in

@@ -15,6 +15,7 @@ use Rattle.sierra_tool.specs.declared.answer.Answer.TheVariants as answers
 use Rattle.sierra_tool.specs.declared.command.Command.{Command}
 use Rattle.sierra_tool.specs.declared.command.Command.TheVariants as commands
 use Rattle.sierra_tool.specs.declared.command.Execute.{Execute}
+use Rattle.sierra_tool.specs.declared.command.Gas.{Gas}
 use Rattle.sierra_tool.specs.declared.command.Show.{Show}
 use Rattle.sierra_tool.specs.declared.command.Source.{Source}
 use Rattle.sierra_tool.specs.declared.command.Source.TheVariants as sources
@@ -87,6 +88,10 @@ IsOfForm text program = (tree : Tree) × IsCheckedTree text tree × IsProgram (l
 abbrev pub IsOfNoForm : List ℕ → Type 0
 IsOfNoForm text = (tree : Tree) × IsCheckedTree text tree × ((program : Program) → IsProgram (layout tree) program → ⊥)
 
+-- a text of a program that isn't refused was read
+abbrev pub HasCheckedTree : SourceReadings → Tree → Type 0
+HasCheckedTree readings tree = Holds sources.Program (readings sources.Program) (λ text. IsCheckedTree text tree)
+
 abbrev pub HasTree : SourceReadings → Tree → Type 0
 HasTree readings tree = Holds sources.Program (readings sources.Program) (λ text. IsTree text tree)
 
@@ -132,7 +137,7 @@ Cause (Some command) readings (answers.ReadFault source) = ComesTo command readi
 Cause (Some command) readings (answers.TooLong source) = ComesTo command readings source × IsTooLong source (readings source)
 Cause (Some command) readings answers.NotBuilt =
     (command ≡ commands.Planned)
-    ⊎ (IsCompiled command × Holds sources.Program (readings sources.Program) IsOfNoForm)
+    ⊎ (IsRead command sources.Input × Holds sources.Program (readings sources.Program) IsOfNoForm)
     ⊎ (IsRead command sources.Input × (program : Program) × HasProgram readings program
     × Holds sources.Input (readings sources.Input) (λ text. (input : Input) → IsInput program text input → ⊥))
 Cause (Some command) readings (answers.TextRefused fault) =
@@ -155,6 +160,8 @@ Cause (Some command) readings (answers.Judged verdict) =
 Cause (Some command) readings (answers.Ran file) =
     (execute : Execute) × (command ≡ commands.Run execute) × (program : Program) × (input : Input)
     × CanRun readings program input × (file ≡ spelling (honest_run program input))
+Cause (Some command) readings (answers.Plan plan) =
+    (gas : Gas) × (command ≡ commands.Gas gas) × (tree : Tree) × HasCheckedTree readings tree × checks.HasPlan tree plan
 Cause (Some command) readings (answers.Printed text) =
     (show : Show) × (command ≡ commands.Show show) × (tree : Tree) × HasTree readings tree × (text ≡ layout tree)
 Cause (Some command) readings (answers.Assembled code) =

@@ -4,6 +4,7 @@ use Rattle.byte_reading.specs.Decimal.{decimal_text}
 use Rattle.std.specs.List.{concat}
 use Rattle.std.specs.Option.{unwrap_or}
 use Rattle.first_form.specs.Texts.{verdict_text}
+use Rattle.gas_solver.specs.Printing.{plan_text}
 use Rattle.program_checks.specs.Lines.{refusal_line}
 use Rattle.sierra_tool.specs.declared.answer.Answer.{Answer}
 use Rattle.sierra_tool.specs.declared.answer.Answer.TheVariants as answers
@@ -13,13 +14,12 @@ use Rattle.sierra_tool.specs.declared.command.Source.{Source}
 use Rattle.sierra_tool.specs.declared.command.Source.TheVariants as sources
 use Rattle.sierra_tool.specs.Lines.{text_fault_line, asm_fault_line, file_refusal_line, check_fault_line, words_text}
 
--- the arguments are a command that isn't built: `compile` or `gas` with a program, `eval` with an input too, `run` with a
--- script besides, or `make` with a number below 2 ^ 64
+-- the arguments are a command that isn't built: `compile` with a program, `eval` with an input too, `run` with a script
+-- besides, or `make` with a number below 2 ^ 64
 abbrev pub IsPlanned : List (List ℕ) → Type 0
 IsPlanned [] = ⊥
 IsPlanned (word ∷ others) =
     ((word ≡ codes "compile") × (length others ≡ 1))
-    ⊎ ((word ≡ codes "gas") × (length others ≡ 1))
     ⊎ ((word ≡ codes "eval") × (length others ≡ 2))
     ⊎ ((word ≡ codes "run") × (length others ≡ 3))
     ⊎ ((word ≡ codes "make") × ((number : ℕ) × (number < 2 ^ 64) × (others ≡ decimal_text number ∷ [])))
@@ -28,6 +28,7 @@ IsPlanned (word ∷ others) =
 abbrev pub IsCommand : List (List ℕ) → Command → Type 0
 IsCommand arguments (commands.Check check) = arguments ≡ codes "check" ∷ check.program.now ∷ check.input.now ∷ check.run.now ∷ []
 IsCommand arguments (commands.Run execute) = arguments ≡ codes "run" ∷ execute.program.now ∷ execute.input.now ∷ []
+IsCommand arguments (commands.Gas gas) = arguments ≡ codes "gas" ∷ gas.program.now ∷ []
 IsCommand arguments (commands.Show show) = arguments ≡ codes "show" ∷ show.program.now ∷ []
 IsCommand arguments (commands.Asm assemble) = arguments ≡ codes "asm" ∷ assemble.file.now ∷ []
 IsCommand arguments commands.Planned = IsPlanned arguments
@@ -42,6 +43,7 @@ abbrev pub files_of : Command → List (Source × List ℕ)
 files_of (commands.Check check) =
     (sources.Program, check.program.now) ∷ (sources.Input, check.input.now) ∷ (sources.Run, check.run.now) ∷ []
 files_of (commands.Run execute) = (sources.Program, execute.program.now) ∷ (sources.Input, execute.input.now) ∷ []
+files_of (commands.Gas gas) = (sources.Program, gas.program.now) ∷ []
 files_of (commands.Show show) = (sources.Program, show.program.now) ∷ []
 files_of (commands.Asm assemble) = (sources.Casm, assemble.file.now) ∷ []
 files_of commands.Planned = []
@@ -72,6 +74,7 @@ IsRead command source = IsSome (name_of (Some command) source)
 abbrev pub IsCompiled : Command → Type 0
 IsCompiled (commands.Check check) = Unit {0}
 IsCompiled (commands.Run execute) = Unit {0}
+IsCompiled (commands.Gas gas) = Unit {0}
 IsCompiled (commands.Show show) = ⊥
 IsCompiled (commands.Asm assemble) = ⊥
 IsCompiled commands.Planned = ⊥
@@ -93,6 +96,7 @@ limit source = 2 ^ 24
 abbrev pub status_of : Answer → ℕ
 status_of (answers.Judged verdict) = 0
 status_of (answers.Ran file) = 0
+status_of (answers.Plan plan) = 0
 status_of (answers.Printed text) = 0
 status_of (answers.Assembled code) = 0
 status_of answers.Usage = 2
@@ -115,6 +119,7 @@ file_line word command source = concat (word ∷ unwrap_or (name_of command sour
 abbrev pub text_of : Option Command → Answer → List ℕ
 text_of command (answers.Judged verdict) = verdict_text verdict
 text_of command (answers.Ran file) = file
+text_of command (answers.Plan plan) = plan_text plan
 text_of command (answers.Printed text) = text
 text_of command (answers.Assembled code) = words_text code
 text_of command answers.Usage = codes "usage\n"

@@ -15,9 +15,10 @@ use Rattle.sierra_tool.specs.declared.command.Check.{Check}
 use Rattle.sierra_tool.specs.declared.command.Command.{Command}
 use Rattle.sierra_tool.specs.declared.command.Command.TheVariants as commands
 use Rattle.sierra_tool.specs.declared.command.Execute.{Execute}
+use Rattle.sierra_tool.specs.declared.command.Gas.{Gas}
 use Rattle.sierra_tool.specs.declared.command.Show.{Show}
 use Rattle.sierra_tool.specs.declared.command.Source.TheVariants as sources
-use Rattle.sierra_tool.specs.Causes.{Reading, absent, found, SourceReadings, Holds, Cause, CanRun, HasRun, HasTree, IsCasm}
+use Rattle.sierra_tool.specs.Causes.{Reading, absent, found, SourceReadings, Holds, Cause, CanRun, HasRun, HasCheckedTree, HasTree, IsCasm}
 use Rattle.sierra_tool.specs.Command.{Parses, name_of, status_of}
 
 -- what a file that is there, or isn't, gives where no read fails
@@ -37,6 +38,10 @@ HasStart readings = (program : Program) × (input : Input) × CanRun readings pr
 abbrev pub HasRunThat : SourceReadings → (Program → Input → Run → Type 0) → Type 0
 HasRunThat readings is = (program : Program) × (input : Input) × (run : Run) × CanRun readings program input × HasRun readings run × is program input run
 
+-- the text of a program that isn't refused was read
+abbrev pub HasCheckedText : SourceReadings → Type 0
+HasCheckedText readings = (tree : Tree) × HasCheckedTree readings tree
+
 -- the text of a program was read
 abbrev pub HasText : SourceReadings → Type 0
 HasText readings = (tree : Tree) × HasTree readings tree
@@ -47,13 +52,16 @@ HasCasm readings = (code : List Instr) × Holds sources.Casm (readings sources.C
 
 -- Of known files, without a failed read or write and not out of memory, each status comes if and only if an answer of this
 -- status has its cause in what the files have. So a check ends with 0 if and only if the run is accepted, and with 15 if
--- and only if it isn't; `run` ends with 0 if and only if there are a program and an input with the gas; and `show` and `asm`
--- if and only if the text is one of a program, or of code.
+-- and only if it isn't; `run` ends with 0 if and only if there are a program and an input with the gas; `gas` if and only if
+-- the text is one of a program that isn't refused, and never with 9; and `show` and `asm` if and only if the text is one of a
+-- program, or of code.
 pub record HasExactStatus (files : FileMap) (command : Option Command) (status : ℕ) : Type 0 where
   pub each : (k : ℕ) → (status ≡ k) ↔ ((answer : Answer) × (status_of answer ≡ k) × Cause command (readings_of files command) answer)
   pub accepted : (check : Check) → command ≡ Some (commands.Check check) → (status ≡ 0) ↔ HasRunThat (readings_of files command) IsAccepted
   pub rejected : (check : Check) → command ≡ Some (commands.Check check) → (status ≡ 15) ↔ HasRunThat (readings_of files command) (λ program input run. IsAccepted program input run → ⊥)
   pub ran : (execute : Execute) → command ≡ Some (commands.Run execute) → (status ≡ 0) ↔ HasStart (readings_of files command)
+  pub planned : (gas : Gas) → command ≡ Some (commands.Gas gas) → (status ≡ 0) ↔ HasCheckedText (readings_of files command)
+  pub built : (gas : Gas) → command ≡ Some (commands.Gas gas) → status ≢ 9
   pub printed : (show : Show) → command ≡ Some (commands.Show show) → (status ≡ 0) ↔ HasText (readings_of files command)
   pub assembled : (assemble : Assemble) → command ≡ Some (commands.Asm assemble) → (status ≡ 0) ↔ HasCasm (readings_of files command)
 

@@ -21,6 +21,7 @@ use Rattle.first_form.specs.declared.input.Input.{Input}
 use Rattle.sierra_tool.specs.Causes.{Reading, absent, unread, found, SourceReadings, Gives, AreReadings, Holds, IsTooLong, IsRefusedTree, IsOfNoForm, IsNoRunFile, CanRun, Cause}
 use Rattle.first_form.specs.Forms.{IsInput}
 use Rattle.program_checks.specs.Checks as checks
+use Rattle.program_checks.specs.declared.checking.Checked.{Checked}
 use Rattle.program_checks.specs.declared.refusal.Refusal.{Refusal}
 use Rattle.sierra_types.specs.declared.program.Program.{Program as Tree}
 use Rattle.sierra_tool.specs.Command.{limit, status_of, text_of}
@@ -49,6 +50,10 @@ NoTree text answer = (fault : TextFault) × Refused text fault × (answer ≡ an
 abbrev pub FailsChecks : List ℕ → Answer → Type 0
 FailsChecks text answer = (refusal : Refusal) × IsRefusedTree text refusal × (answer ≡ answers.ProgramRefused refusal)
 
+-- the refusal of a text that isn't that of a program which passes them
+abbrev pub NoChecked : List ℕ → Answer → Type 0
+NoChecked text answer = NoTree text answer ⊎ FailsChecks text answer
+
 abbrev pub NoProgram : List ℕ → Answer → Type 0
 NoProgram text answer = NoTree text answer ⊎ FailsChecks text answer ⊎ (IsOfNoForm text × (answer ≡ answers.NotBuilt))
 
@@ -71,10 +76,10 @@ pub record ReadsSource {X : Type 0} (before now : FilesView) (name : List ℕ) (
   pub given : Gives before.contents name reading
   pub outcome : MatchResult result (taken reading) (Stops (λ answer. refused reading answer × IsCounted before now answer) (reading ≢ absent))
 
--- a tree passes the checks of programs, or the stop is the refusal of the one that it doesn't pass
-abbrev pub PassesChecks : Tree → Result ⊤ Stop → Type 0
+-- a tree passes the checks of programs, which find this of it, or the stop is the refusal of the one that it doesn't pass
+abbrev pub PassesChecks : Tree → Result Checked Stop → Type 0
 PassesChecks tree result =
-    MatchResult result (λ done. checks.Passes tree) (Stops (λ answer. (refusal : Refusal) × checks.Refused tree refusal × (answer ≡ answers.ProgramRefused refusal)) (Unit {0}))
+    MatchResult result (checks.Finds tree) (Stops (λ answer. (refusal : Refusal) × checks.Refused tree refusal × (answer ≡ answers.ProgramRefused refusal)) (Unit {0}))
 
 -- the bytes that were found
 abbrev pub IsFound : Source → Reading → List ℕ → Type 0

@@ -9,6 +9,7 @@ use crate::command::Source;
 use casm_text::AsmFault;
 use casm_word::Code;
 use first_form::{CheckFault, Verdict};
+use gas_solver::GasPlan;
 use program_checks::Refusal;
 use run_file::FileRefusal;
 use sierra_text::TextFault;
@@ -22,6 +23,8 @@ pub enum Answer {
     Judged(Verdict),
     /// The bytes of the honest run's file.
     Ran(Bytes),
+    /// The program's gas plan.
+    Plan(GasPlan),
     /// The program's text in the plain layout.
     Printed(Bytes),
     /// The code of a CASM text.
@@ -61,7 +64,11 @@ impl Answer {
         ensures { result ≡ status_of self.now }
     {
         match self {
-            Answer::Judged(_) | Answer::Ran(_) | Answer::Printed(_) | Answer::Assembled(_) => 0,
+            Answer::Judged(_)
+            | Answer::Ran(_)
+            | Answer::Plan(_)
+            | Answer::Printed(_)
+            | Answer::Assembled(_) => 0,
             Answer::Usage => 2,
             Answer::Missing(_) => 3,
             Answer::ReadFault(_) => 4,

@@ -7,6 +7,7 @@ ghost use Rattle.sierra_tool.specs.declared.command.Assemble.{Assemble as Assemb
 ghost use Rattle.sierra_tool.specs.declared.command.Check.{Check as CheckNames};
 ghost use Rattle.sierra_tool.specs.declared.command.Command.TheVariants as commands;
 ghost use Rattle.sierra_tool.specs.declared.command.Execute.{Execute as ExecuteNames};
+ghost use Rattle.sierra_tool.specs.declared.command.Gas.{Gas as GasName};
 ghost use Rattle.sierra_tool.specs.declared.command.Show.{Show as ShowName};
 ghost use Rattle.sierra_tool.specs.Command.{IsCommand, IsPlanned, Parses, name_of, limit};
 
@@ -56,6 +57,13 @@ pub struct Execute<'a> {
     pub input: &'a str,
 }
 
+/// The command `gas PROGRAM`, by the name of its file.
+#[derive(Clone, Copy, Debug, PartialEq, Eq)]
+pub struct Gas<'a> {
+    /// The name of the program.
+    pub program: &'a str,
+}
+
 /// The command `show PROGRAM`, by the name of its file.
 #[derive(Clone, Copy, Debug, PartialEq, Eq)]
 pub struct Show<'a> {
@@ -77,6 +85,8 @@ pub enum Command<'a> {
     Check(Check<'a>),
     /// `run PROGRAM INPUT`: the run file of the honest run.
     Run(Execute<'a>),
+    /// `gas PROGRAM`: the gas plan of a program.
+    Gas(Gas<'a>),
     /// `show PROGRAM`: a program in the plain layout.
     Show(Show<'a>),
     /// `asm FILE`: the words of a CASM text.
@@ -114,6 +124,22 @@ impl<'a> Execute<'a> {
             [word, program, input] if word.as_str() == "run" => Some(Execute {
                 program: program.as_str(),
                 input: input.as_str(),
+            }),
+            _ => None,
+        }
+    }
+}
+
+impl<'a> Gas<'a> {
+    /// The program of which the arguments ask for the gas plan.
+    fn of(arguments: &'a [String]) -> Option<Gas<'a>>
+        ensures { MatchOption result
+            ((gas : GasName) → IsCommand (map string_bytes arguments.now) (commands.Gas gas) → ⊥)
+            (λ gas. IsCommand (map string_bytes arguments.now) (commands.Gas gas)) }
+    {
+        match arguments {
+            [word, program] if word.as_str() == "gas" => Some(Gas {
+                program: program.as_str(),
             }),
             _ => None,
         }
@@ -161,6 +187,8 @@ impl<'a> Command<'a> {
             Some(Command::Check(check))
         } else if let Some(execute) = Execute::of(arguments) {
             Some(Command::Run(execute))
+        } else if let Some(gas) = Gas::of(arguments) {
+            Some(Command::Gas(gas))
         } else if let Some(show) = Show::of(arguments) {
             Some(Command::Show(show))
         } else if let Some(assemble) = Assemble::of(arguments) {
@@ -182,6 +210,7 @@ impl<'a> Command<'a> {
             (Command::Check(check), Source::Run) => Some(check.run),
             (Command::Run(execute), Source::Program) => Some(execute.program),
             (Command::Run(execute), Source::Input) => Some(execute.input),
+            (Command::Gas(gas), Source::Program) => Some(gas.program),
             (Command::Show(show), Source::Program) => Some(show.program),
             (Command::Asm(assemble), Source::Casm) => Some(assemble.file),
             _ => None,
@@ -211,7 +240,7 @@ fn takes(word: &str, others: &[String]) -> bool
     ensures { IsTrue result ↔ IsPlanned (word.now ∷ map string_bytes others.now) }
 {
     match word {
-        "compile" | "gas" => others.len() == 1,
+        "compile" => others.len() == 1,
         "eval" => others.len() == 2,
         "run" => others.len() == 3,
         "make" => is_one_number(others),

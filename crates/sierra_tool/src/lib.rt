@@ -9,6 +9,7 @@ mod assemble;
 mod check;
 mod command;
 mod execute;
+mod gas;
 mod laws;
 mod lines;
 mod output;
@@ -17,9 +18,6 @@ mod tool;
 mod work;
 
 pub use answer::{Answer, Bytes};
-pub use command::{Assemble, Check, Command, Execute, Show, Source};
+pub use command::{Assemble, Check, Command, Execute, Gas, Show, Source};
 pub use laws::{one_answer, some_answer};
 pub use tool::{Shelf, sierra_tool};
-
-#[cfg(test)]
-mod tests;

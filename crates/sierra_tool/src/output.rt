@@ -108,6 +108,7 @@ fn lines(alloc: Global, command: &Command, answer: &Answer) -> Result<String, Al
     match answer {
         Answer::Judged(verdict) => verdict_text(alloc, verdict),
         Answer::Ran(_) | Answer::Printed(_) | Answer::ProgramRefused(_) => Ok(String::new(alloc)),
+        Answer::Plan(plan) => gas_solver::print(alloc, plan),
         Answer::Assembled(code) => words_text(alloc, code),
         Answer::Usage => String::from_str(alloc, "usage\n"),
         Answer::Missing(source) => line(alloc, "missing ", command.file(*source)),

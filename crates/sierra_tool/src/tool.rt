@@ -77,6 +77,7 @@ fn answer<F: Files>(alloc: Global, files: &mut F, command: &Command) -> Result<A
     match command {
         Command::Check(check) => check.answer(alloc, files),
         Command::Run(execute) => execute.answer(alloc, files),
+        Command::Gas(gas) => gas.answer(alloc, files),
         Command::Show(show) => show.answer(alloc, files),
         Command::Asm(assemble) => assemble.answer(alloc, files),
         Command::Planned => Err(Stop::Refused(Answer::NotBuilt)),

@@ -14,7 +14,7 @@ use crate::answer::{Answer, Stop};
 use crate::command::{Command, Source};
 use edge_io::{Files, ReadFault, read_all};
 use first_form::{Input, Program, entry_gas, read_input, read_program};
-use program_checks::{Refusal, check};
+use program_checks::{Checked, Refusal, check};
 use sierra_text::{TextFault, print};
 use std::alloc::{AllocError, Global};
 
@@ -96,13 +96,13 @@ fn program<F: Files>(alloc: Global, files: &mut F, name: &str) -> Result<Program
     }
 }
 
-/// Stops with the first refusal of a program, if it has one.
-fn pass_checks(alloc: Global, tree: &sierra_types::Program) -> Result<(), Stop>
+/// What the checks find of a program. Stops with its first refusal, if it has one.
+pub fn pass_checks(alloc: Global, tree: &sierra_types::Program) -> Result<Checked, Stop>
     requires { IsShort tree.now }
     ensures { PassesChecks tree.now result }
 {
     match check(alloc, tree) {
-        Ok(_) => Ok(()),
+        Ok(checked) => Ok(checked),
         Err(Refusal::Memory) => Err(Stop::OutOfMemory),
         Err(refusal) => Err(Stop::Refused(Answer::ProgramRefused(refusal))),
     }

@@ -32,10 +32,10 @@ returns-in_err-program g c =
 pub returns-in-Some : goal.returns-in-Some
 returns-in-Some g c =
     let files = g.F.Files.view in
-    is_of_form (files c.args.files.now) (files c.read_tree.new.files) c.args.name.now c.in_ok-tree.tree c.in_ok-tree.ensures c.in_ok-pass_checks.ensures c.in-Some.program ((c.in_ok-program.ensures c.in-Some.program).0 c.in-Some.is)
+    is_of_form (files c.args.files.now) (files c.read_tree.new.files) c.args.name.now c.in_ok-tree.tree c.in_ok-tree.ensures (c.in_ok-pass_checks.field-0, c.in_ok-pass_checks.ensures) c.in-Some.program ((c.in_ok-program.ensures c.in-Some.program).0 c.in-Some.is)
 
 -- .. or of none
 pub returns : goal.returns
 returns g c =
     let files = g.F.Files.view in
-    is_of_no_form (files c.args.files.now) (files c.read_tree.new.files) c.args.name.now c.in_ok-tree.tree c.in_ok-tree.ensures c.in_ok-pass_checks.ensures (λ program is. never program (sym c.in-None.is ∙ (c.in_ok-program.ensures program).1 is))
+    is_of_no_form (files c.args.files.now) (files c.read_tree.new.files) c.args.name.now c.in_ok-tree.tree c.in_ok-tree.ensures (c.in_ok-pass_checks.field-0, c.in_ok-pass_checks.ensures) (λ program is. never program (sym c.in-None.is ∙ (c.in_ok-program.ensures program).1 is))

@@ -1,8 +1,8 @@
 //! The tool over files and a sink in memory: the run that adds 7 to 5 and what lies near to it, runs that the tool itself
 //! makes, and CASM texts.
 
-use crate::{Shelf, sierra_tool};
 use edge_io::{MemFiles, MemSink, QuietFiles, QuietSink};
+use sierra_tool::{Shelf, sierra_tool};
 use std::alloc::{AllocError, Global};
 use std::test::Fail;
 
@@ -26,6 +26,9 @@ const PROGRAM: &[u8] = b"type felt64 = felt64;\n\n\
 /// A program whose type and libfunc are unknown.
 const UNKNOWN: &[u8] =
     b"type felt252 = felt252;libfunc felt64_div = felt64_div;return();main@0() -> ();";
+
+/// A program that runs without an end, and so has no gas plan.
+const ENDLESS: &[u8] = b"libfunc jump = jump;jump() { 0() };main@0() -> ();";
 
 /// The input of the run.
 const INPUT: &[u8] = b"gas 300\n5\n";
@@ -351,8 +354,9 @@ fn refuses_what_cannot_be_run(rt: HostRuntime) -> Result<(), Fail> {
     let used_twice = b"type felt64 = felt64;libfunc drop<felt64> = drop<felt64>;\
         drop<felt64>([0]) -> ();drop<felt64>([0]) -> ();return();main@0([0]: felt64) -> ();";
     let not_on_top = b"type felt64 = felt64;return([0]);main@0([0]: felt64) -> (felt64);";
-    let rows: [(&[u8], &[u8], u8, &[u8]); 8] = [
+    let rows: [(&[u8], &[u8], u8, &[u8]); 9] = [
         (b"return();f@0() -> ();", INPUT, 11, b"P51\n"),
+        (ENDLESS, INPUT, 11, b"P40 0\n"),
         (not_on_top, INPUT, 11, b"P30 0 0\n"),
         (UNKNOWN, INPUT, 11, b"P10 felt252\n"),
         (unknown_libfunc, INPUT, 11, b"P11 felt64_div\n"),
@@ -378,7 +382,12 @@ fn refuses_what_cannot_be_run(rt: HostRuntime) -> Result<(), Fail> {
 #[test]
 fn refuses_programs_before_other_files(rt: HostRuntime) -> Result<(), Fail> {
     let alloc = rt.alloc();
-    let rows: [(&[&str], u8); 3] = [(&CHECK, 11), (&["run", "p", "i"], 11), (&["show", "p"], 0)];
+    let rows: [(&[&str], u8); 4] = [
+        (&CHECK, 11),
+        (&["run", "p", "i"], 11),
+        (&["gas", "p"], 11),
+        (&["show", "p"], 0),
+    ];
     for (arguments, status) in rows {
         let (answered, written) = call(alloc, arguments, [Some(UNKNOWN), None, None])?;
         assert_eq!(rt; answered, status, "{arguments:?}");
@@ -440,6 +449,57 @@ fn namespaced(alloc: Global) -> Result<Vec<u8>, AllocError> {
     Ok(program)
 }
 
+/// The program that withdraws gas for each of its turns, and panics when there is none left.
+const LOOP: &[u8] =
+    b"type RangeCheck = RangeCheck;\ntype GasBuiltin = GasBuiltin;\ntype felt64 = felt64;\n\
+    type Array<felt64> = Array<felt64>;\ntype Unit = Struct<ut@Tuple>;\n\
+    type Panic = Struct<ut@core::panics::Panic>;\ntype Good = Struct<ut@Tuple, Unit>;\n\
+    type Bad = Struct<ut@Tuple, Panic, Array<felt64>>;\n\
+    type R = Enum<ut@core::panics::PanicResult::<((),)>, Good, Bad>;\n\n\
+    libfunc disable_ap_tracking = disable_ap_tracking;\nlibfunc store_temp<RangeCheck> = store_temp<RangeCheck>;\n\
+    libfunc store_temp<GasBuiltin> = store_temp<GasBuiltin>;\nlibfunc withdraw_gas = withdraw_gas;\n\
+    libfunc branch_align = branch_align;\nlibfunc jump = jump;\nlibfunc array_new<felt64> = array_new<felt64>;\n\
+    libfunc felt64_const<1> = felt64_const<1>;\nlibfunc store_temp<felt64> = store_temp<felt64>;\n\
+    libfunc array_append<felt64> = array_append<felt64>;\nlibfunc struct_construct<Panic> = struct_construct<Panic>;\n\
+    libfunc struct_construct<Bad> = struct_construct<Bad>;\nlibfunc enum_init<R, 1> = enum_init<R, 1>;\n\
+    libfunc store_temp<R> = store_temp<R>;\n\n\
+    disable_ap_tracking() -> ();\nstore_temp<RangeCheck>([0]) -> ([0]);\nstore_temp<GasBuiltin>([1]) -> ([1]);\n\
+    withdraw_gas([0], [1]) { fallthrough([0], [1]) 8([0], [1]) };\nbranch_align() -> ();\n\
+    store_temp<RangeCheck>([0]) -> ([0]);\nstore_temp<GasBuiltin>([1]) -> ([1]);\njump() { 3() };\nbranch_align() -> ();\n\
+    array_new<felt64>() -> ([2]);\nfelt64_const<1>() -> ([3]);\nstore_temp<felt64>([3]) -> ([3]);\n\
+    array_append<felt64>([2], [3]) -> ([2]);\nstruct_construct<Panic>() -> ([4]);\nstruct_construct<Bad>([4], [2]) -> ([5]);\n\
+    enum_init<R, 1>([5]) -> ([6]);\nstore_temp<RangeCheck>([0]) -> ([0]);\nstore_temp<GasBuiltin>([1]) -> ([1]);\n\
+    store_temp<R>([6]) -> ([6]);\nreturn([0], [1], [6]);\n\n\
+    main@0([0]: RangeCheck, [1]: GasBuiltin) -> (RangeCheck, GasBuiltin, R);\n";
+
+/// Its gas plan.
+const LOOP_PLAN: &[u8] =
+    b"entry 1970\n0 need 1870\n1 need 1870\n2 need 1770\n3 need 1670 amount 1970\n4 need 1970\n5 need 1970\n6 need 1870\n7 need 1770\n\
+    8 need 900\n9 need 900\n10 need 800\n11 need 800\n12 need 700\n13 need 600\n14 need 600\n15 need 600\n16 need 600\n17 need 500\n18 need 400\n19 need 100\n";
+
+#[test]
+fn prints_gas_plans(rt: HostRuntime) -> Result<(), Fail> {
+    let alloc = rt.alloc();
+    let rows: [(&[u8], u8, &[u8]); 6] = [
+        (
+            PROGRAM,
+            0,
+            b"entry 300\n0 need 200\n1 need 200\n2 need 200\n3 need 100\n",
+        ),
+        (LOOP, 0, LOOP_PLAN),
+        (b"return();main@0() -> ();", 0, b"entry 200\n0 need 100\n"),
+        (ENDLESS, 11, b"P40 0\n"),
+        (b"", 11, b"P51\n"),
+        (b"type felt64 = felt64", 10, b"T1 1 21\n"),
+    ];
+    for (text, status, output) in rows {
+        let (answered, written) = call(alloc, &["gas", "p"], [Some(text), None, None])?;
+        assert_eq!(rt; written.as_slice(), output);
+        assert_eq!(rt; answered, status, "{output:?}");
+    }
+    Ok(())
+}
+
 #[test]
 fn assembles_texts(rt: HostRuntime) -> Result<(), Fail> {
     let alloc = rt.alloc();
@@ -473,7 +533,7 @@ fn assembles_texts(rt: HostRuntime) -> Result<(), Fail> {
 fn tells_commands_from_other_arguments(rt: HostRuntime) -> Result<(), Fail> {
     let alloc = rt.alloc();
     let (usage, planned) = ((2, b"usage\n".as_slice()), (9, b"not built\n".as_slice()));
-    let rows: [(&[&str], (u8, &[u8])); 20] = [
+    let rows: [(&[&str], (u8, &[u8])); 22] = [
         (&[], usage),
         (&[""], usage),
         (&["check", "a"], usage),
@@ -485,12 +545,14 @@ fn tells_commands_from_other_arguments(rt: HostRuntime) -> Result<(), Fail> {
         (&["show"], usage),
         (&["show", "p", "x"], usage),
         (&["asm", "p", "x"], usage),
+        (&["gas"], usage),
+        (&["gas", "p", "x"], usage),
         (&["Check", "p", "i", "r"], usage),
         (&["make", "05"], usage),
         (&["make", "18446744073709551616"], usage),
         (&["table", "p"], usage),
         (&["compile", "p"], planned),
-        (&["gas", "p"], planned),
+        (&["gas", "p"], (3, b"missing p\n".as_slice())),
         (&["eval", "p", "i"], planned),
         (&["run", "p", "i", "s"], planned),
         (&["make", "18446744073709551615"], planned),
@@ -522,11 +584,13 @@ fn answers_a_program_that_is_too_long(rt: HostRuntime) -> Result<(), Fail> {
 fn reads_no_file_that_is_not_needed(rt: HostRuntime) -> Result<(), Fail> {
     let alloc = rt.alloc();
     let (program, input) = (Some(PROGRAM), Some(INPUT));
-    let rows: [(&[&str], [Option<&[u8]>; 3], u8, u64); 10] = [
+    let rows: [(&[&str], [Option<&[u8]>; 3], u8, u64); 12] = [
         (&["table", "p"], [program, None, None], 2, 0),
         (&["compile", "p"], [program, None, None], 9, 0),
         (&["show", "p"], [program, None, None], 0, 2),
         (&["show", "p"], [None; 3], 3, 1),
+        (&["gas", "p"], [program, None, None], 0, 2),
+        (&["gas", "p"], [None; 3], 3, 1),
         (&["asm", "p"], [Some(b"ret;"), None, None], 0, 2),
         (&["run", "p", "i"], [program, input, None], 0, 4),
         (&["run", "p", "i"], [Some(b"type"), input, None], 10, 2),

@@ -1,10 +1,13 @@
 //! Programs that pass or are refused, each with its line.
 
-use crate::{Refusal, check, refusal_line};
 use ap_refs::RefFault;
 use entry_check::EntryFault;
+use gas_solver::GasFault;
 use linear_check::LinearFault;
-use sierra_types::{Function, LibfuncDecl, List, Name, Program, Statement, TypeDecl};
+use program_checks::{Refusal, check, refusal_line};
+use sierra_types::{
+    Arg, Branch, Function, LibfuncDecl, List, Name, Program, Statement, Target, TypeDecl,
+};
 use std::alloc::{AllocError, Global};
 use std::process::Abort;
 use std::test::Fail;
@@ -240,6 +243,158 @@ fn entries_and_places_have_lines(rt: HostRuntime) -> Result<(), Fail> {
             refusal_line(alloc, &Refusal::Places(fault))?.as_slice(),
             expected
         );
+    }
+    Ok(())
+}
+
+#[test]
+fn gas_faults_have_lines(rt: HostRuntime) -> Result<(), Fail> {
+    let alloc = rt.alloc();
+    let rows: [(&[u64], &[u8]); 3] = [
+        (&[7], b"P40 7\n"),
+        (&[0, 12, 5], b"P40 0 12 5\n"),
+        (&[], b"P40\n"),
+    ];
+    for (cycle, expected) in rows {
+        let fault = GasFault::Cycle(List::new(cycle.to_vec(alloc)?));
+        let line = refusal_line(alloc, &Refusal::Gas(fault))?;
+        assert_eq!(rt; line.as_slice(), expected);
+    }
+    let line = refusal_line(alloc, &Refusal::Gas(GasFault::TooLarge(70)))?;
+    assert_eq!(rt; line.as_slice(), b"P41 70\n".as_slice());
+    Ok(())
+}
+
+/// Nothing.
+fn none<T>(alloc: Global) -> List<T> {
+    List::new(Vec::new(alloc))
+}
+
+/// The libfunc of this id and generic name, with these arguments.
+fn libfunc(
+    alloc: Global,
+    id: &str,
+    generic: &[u8],
+    args: List<Arg>,
+) -> Result<LibfuncDecl, AllocError> {
+    Ok(LibfuncDecl {
+        id: Name::new(alloc, id.as_bytes())?,
+        generic: Name::new(alloc, generic)?,
+        args,
+    })
+}
+
+/// The statement that a word says: `return`, `jump` with its target, or another libfunc that goes on behind it.
+fn statement(alloc: Global, word: &str) -> Result<Statement, AllocError> {
+    if word == "return" {
+        return Ok(Statement::Return { args: none(alloc) });
+    }
+    let (libfunc, target) = match word.strip_prefix("jump") {
+        Some(number) => ("jump", Target::To(number.parse().unwrap_or(0))),
+        None => (word, Target::Fallthrough),
+    };
+    let branch = Branch {
+        target,
+        results: none(alloc),
+    };
+    Ok(Statement::Invoke {
+        libfunc: Name::new(alloc, libfunc.as_bytes())?,
+        args: none(alloc),
+        branches: List::new(vec![in alloc; branch]?),
+    })
+}
+
+/// Functions without parameters and results, by their entries, the last of which has a name; and statements, each a word:
+/// `jump0` goes to statement 0, `call1` calls function 1, `locals` ends the locals.
+fn functions(
+    alloc: Global,
+    name: &[u8],
+    entries: &str,
+    statements: &str,
+) -> Result<Program, AllocError> {
+    let mut functions = Vec::new(alloc);
+    let mut libfuncs = Vec::new(alloc);
+    libfuncs.push(libfunc(alloc, "jump", b"jump", none(alloc))?)?;
+    libfuncs.push(libfunc(alloc, "locals", b"finalize_locals", none(alloc))?)?;
+    let last = entries.split_whitespace().count().saturating_sub(1);
+    for (place, entry) in entries.split_whitespace().enumerate() {
+        let numbered = format!(in alloc; "f{place}")?;
+        let id = if place == last {
+            name
+        } else {
+            numbered.as_bytes()
+        };
+        functions.push(Function {
+            id: Name::new(alloc, id)?,
+            entry: entry.parse().unwrap_or(0),
+            params: none(alloc),
+            results: none(alloc),
+        })?;
+        let callee = vec![in alloc; Arg::Callee(Name::new(alloc, id)?)]?;
+        let call = format!(in alloc; "call{place}")?;
+        libfuncs.push(libfunc(alloc, &call, b"function_call", List::new(callee))?)?;
+    }
+    let mut list = Vec::new(alloc);
+    for word in statements.split_whitespace() {
+        list.push(statement(alloc, word)?)?;
+    }
+    Ok(Program {
+        types: none(alloc),
+        libfuncs: List::new(libfuncs),
+        statements: List::new(list),
+        functions: List::new(functions),
+    })
+}
+
+/// A cycle of one statement, of several, and by a call; and what comes before gas: places and main.
+#[test]
+fn cycles_are_refused_behind_places(rt: HostRuntime) -> Result<(), Fail> {
+    let alloc = rt.alloc();
+    let rows: [(&[u8], &str, &str, &[u8]); 6] = [
+        (b"main", "0", "jump0", b"P40 0\n"),
+        (b"main", "0", "jump2 jump0 jump1", b"P40 0 2 1\n"),
+        (b"main", "0 2", "call1 return call0 return", b"P40 0 2\n"),
+        (b"main", "0", "locals locals jump0", b"P34 1\n"),
+        (b"f", "0", "jump0", b"P51\n"),
+        (b"main", "0 1", "return call0 return", b""),
+    ];
+    for (name, entries, statements, expected) in rows {
+        let program = functions(alloc, name, entries, statements)?;
+        assert_eq!(rt;
+            line(&rt, alloc, &program)?.as_slice(),
+            expected,
+            "{statements}"
+        );
+    }
+    Ok(())
+}
+
+/// Calls of functions 0 to 23, each but the first of which calls the one before twice, so that a call of function `n` takes
+/// `400 * 2^n - 200`. Main, behind them, begins at statement 73 or 84: a statement before that needs `2^32` or more, or all
+/// needs are less, and main's with its own call is `2^32 + 4`.
+#[test]
+fn large_needs_are_refused(rt: HostRuntime) -> Result<(), Fail> {
+    let alloc = rt.alloc();
+    let mut entries = String::from_str(alloc, "0")?;
+    let mut statements = String::from_str(alloc, "return")?;
+    for level in 0..23_u64 {
+        let entry = 3 * level + 1;
+        entries.push_str(&format!(in alloc; " {entry}")?)?;
+        statements.push_str(&format!(in alloc; " call{level} call{level} return")?)?;
+    }
+    let rows: [(u64, &str, &[u8]); 2] = [
+        (73, "call23 call23 return jump70", b"P41 70\n"),
+        (
+            84,
+            "call23 call21 call17 call16 call15 call14 call12 call10 call9 call8 call3 call2 call2 return jump70",
+            b"P41 84\n",
+        ),
+    ];
+    for (entry, end, expected) in rows {
+        let entries = format!(in alloc; "{entries} {entry}")?;
+        let statements = format!(in alloc; "{statements} {end}")?;
+        let program = functions(alloc, b"main", &entries, &statements)?;
+        assert_eq!(rt; line(&rt, alloc, &program)?.as_slice(), expected, "{entry}");
     }
     Ok(())
 }
