@@ -1,0 +1,4 @@
+pub mod Elements
+mod Maps
+pub mod Typed
+pub mod Variants
