@@ -1,0 +1,11 @@
+pub mod Answering
+pub mod ArraysTypes
+pub mod ControlTypes
+pub mod DataTypes
+pub mod Declared
+pub mod DictionariesTypes
+pub mod FeltsTypes
+pub mod GasTypes
+pub mod IntegersTypes
+pub mod Short
+pub mod Typed

@@ -1,0 +1,14 @@
+pub mod Answers
+pub mod Applying
+pub mod Arrays
+pub mod Control
+pub mod Data
+pub mod Dictionaries
+pub mod Do
+pub mod Felts
+pub mod Gas
+pub mod Integers
+pub mod Kept
+pub mod Mapped
+pub mod Placed
+pub mod Proper
