@@ -1,0 +1,2 @@
+//! What programs mean.
+#![tactic(auto)]

@@ -1,0 +1,4 @@
+mod Kinds
+mod Made
+mod Numbers
+mod Printed
