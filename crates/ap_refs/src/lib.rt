@@ -18,8 +18,6 @@ mod passing;
 mod place;
 mod placing;
 mod same;
-#[cfg(test)]
-mod tests;
 
 pub use check::places;
 pub use fault::RefFault;

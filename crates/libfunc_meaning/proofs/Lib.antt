@@ -7,6 +7,5 @@ pub mod DictionariesTypes
 pub mod FeltsTypes
 pub mod GasTypes
 pub mod IntegersTypes
-pub mod Shapes
 pub mod Short
 pub mod Typed

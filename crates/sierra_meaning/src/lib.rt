@@ -1,2 +1,0 @@
-//! What programs mean.
-#![tactic(auto)]

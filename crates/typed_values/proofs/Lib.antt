@@ -1,4 +1,0 @@
-mod Kinds
-mod Made
-mod Numbers
-mod Printed

@@ -1,9 +1,0 @@
-pub mod Behind
-pub mod Inputs
-pub mod Kinds
-pub mod Listing
-pub mod Making
-pub mod Outcome
-pub mod Reading
-pub mod Shown
-pub mod Texts
