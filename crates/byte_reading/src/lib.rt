@@ -6,8 +6,6 @@
 
 mod decimal;
 mod laws;
-#[cfg(test)]
-mod tests;
 mod unfinished;
 
 pub use decimal::{DecimalFault, leading_decimal, read_decimal};

@@ -14,8 +14,6 @@ mod flags;
 mod instr;
 mod laws;
 mod rules;
-#[cfg(test)]
-mod tests;
 
 pub use cell_expr::{At, CellExpr, Side};
 pub use code::{Code, words};

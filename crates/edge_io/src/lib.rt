@@ -19,6 +19,3 @@ pub use quiet_sink::QuietSink;
 pub use sinks::{Failed, Sink, write_all};
 pub use std_files::StdFiles;
 pub use std_sink::StdSink;
-
-#[cfg(test)]
-mod tests;

@@ -8,8 +8,6 @@
 mod entry;
 mod fault;
 mod laws;
-#[cfg(test)]
-mod tests;
 
 pub use entry::check_entry;
 pub use fault::EntryFault;

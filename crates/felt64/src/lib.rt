@@ -10,9 +10,6 @@ ghost use Rattle.std.specs.Option.{SomeIff};
 ghost use Rattle.felt64.specs.Field.{modulus, sum, difference, product, negative};
 ghost use Rattle.byte_reading.specs.Decimal.{decimal_text, IsNotDigits};
 
-#[cfg(test)]
-mod tests;
-
 use byte_reading::{DecimalFault, read_decimal};
 use std::fmt;
 use std::marker::Model;

@@ -36,34 +36,3 @@ pub fn read_input(text: &[u8]) -> Option<Input>
         None
     }
 }
-
-#[cfg(test)]
-mod tests {
-    use super::*;
-
-    #[test]
-    fn reads_inputs_of_the_form(rt: HostRuntime) {
-        let rows = [
-            ("gas 300\n5\n", Some((300, 5))),
-            ("gas 0\n0\n", Some((0, 0))),
-            (
-                "gas 4294967295\n18446744069414584320\n",
-                Some((4294967295, 18446744069414584320)),
-            ),
-            ("gas 4294967296\n5\n", None),
-            ("gas 300\n05\n", None),
-            ("gas 300\n5", None),
-            ("gas 300\n5\n\n", None),
-            ("gas 300\n18446744069414584321\n", None),
-            ("gas\n5\n", None),
-            ("", None),
-        ];
-        for (text, want) in rows {
-            let numbers = match read_input(text.as_bytes()) {
-                Some(input) => Some((input.gas, input.argument.value())),
-                None => None,
-            };
-            assert_eq!(rt; numbers, want, "at {text}");
-        }
-    }
-}

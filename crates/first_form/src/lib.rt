@@ -6,8 +6,6 @@
 #![tactic(auto)]
 
 mod accepted;
-#[cfg(test)]
-mod add_seven;
 mod code;
 mod honest;
 mod input;

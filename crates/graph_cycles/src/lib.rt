@@ -13,6 +13,3 @@ mod search;
 pub use finding::{Cycles, find_cycles};
 pub use graph::Graph;
 pub use laws::{adding_below, targets_before};
-
-#[cfg(test)]
-mod tests;

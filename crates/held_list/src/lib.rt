@@ -6,8 +6,6 @@
 
 mod held;
 mod laws;
-#[cfg(test)]
-mod tests;
 
 pub use held::{AddFault, Held};
 pub use laws::{differ_equal, differ_least};

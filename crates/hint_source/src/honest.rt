@@ -126,23 +126,3 @@ fn remainder(a: Felt, b: Felt) -> Option<Felt>
 {
     Felt::new(a.value().checked_rem(b.value())?)
 }
-
-#[cfg(test)]
-mod tests {
-    use super::*;
-
-    #[test]
-    fn fresh_stops_at_the_last_segment(rt: HostRuntime) {
-        let mut honest = Honest {
-            fresh: u32::MAX - 4,
-        };
-        let rows = [Some(18446744065119617024), None, None];
-        for (number, want) in rows.iter().enumerate() {
-            let got = honest.answer(&Query {
-                number: number as u64,
-                kind: Kind::Fresh,
-            });
-            assert_eq!(rt; got.map(Felt::value), *want, "query {number}");
-        }
-    }
-}

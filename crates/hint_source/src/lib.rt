@@ -18,6 +18,3 @@ pub use laws::{answers_of_three_accesses, silent_sources};
 pub use note::Note;
 pub use overlay::Overlay;
 pub use source::{HintSource, Query, TeachFault};
-
-#[cfg(test)]
-mod tests;

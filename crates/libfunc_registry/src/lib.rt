@@ -20,8 +20,6 @@ mod integers;
 mod laws;
 mod libfunc;
 mod sig;
-#[cfg(test)]
-mod tests;
 mod wanted;
 mod width;
 

@@ -16,6 +16,3 @@ pub use reader::{Reader, read};
 pub use refusal::FileRefusal;
 pub use run::{Run, States};
 pub use writer::write;
-
-#[cfg(test)]
-mod tests;

@@ -19,8 +19,6 @@ mod parts;
 mod plain;
 mod printing;
 mod reading;
-#[cfg(test)]
-mod tests;
 
 pub use fault::TextFault;
 pub use laws::{

@@ -7,8 +7,6 @@
 mod list;
 mod name;
 mod program;
-#[cfg(test)]
-mod tests;
 
 pub use list::List;
 pub use name::Name;

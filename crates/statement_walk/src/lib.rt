@@ -9,8 +9,6 @@
 mod driver;
 mod laws;
 mod rules;
-#[cfg(test)]
-mod tests;
 mod walk;
 
 pub use driver::run;

@@ -11,6 +11,3 @@ mod tokens;
 pub use place::Place;
 pub use stop::Stop;
 pub use tokens::{blanks, is_digit, is_next, is_word_byte, mark, number, word};
-
-#[cfg(test)]
-mod tests;

@@ -30,8 +30,6 @@ mod shape_index;
 mod shapes;
 mod signatures;
 mod sizing;
-#[cfg(test)]
-mod tests;
 mod type_id;
 mod types;
 mod written;
