@@ -103,12 +103,28 @@ fn lower_cells(alloc: Global, by: u64, cells: &[CellExpr]) -> Result<Cells, Allo
     Ok(Cells::from_vec(made))
 }
 
-/// What is held, named after ap moved up by `by` cells.
+/// What is held, named after ap moved up by `by` cells. Where nothing changes it takes no memory.
+#[tactic(auto, using(crate::proofs::Lists::stays, crate::proofs::Lists::none_stays))]
 pub(crate) fn lower_all(
     alloc: Global,
     by: u64,
-    held: &Held<Cells>,
+    held: Held<Cells>,
 ) -> Result<Held<Cells>, AllocError>
+    requires near { by ≤ most_moved }
+    requires within { AreWithin widest held }
+    ensures { IfOk result (λ made. made ≡ moving.lowered_all by held) }
+{
+    if by == 0 {
+        return Ok(held);
+    }
+    if held.items().is_empty() {
+        return Ok(held);
+    }
+    lower_each(alloc, by, &held)
+}
+
+/// The same, each variable by itself.
+fn lower_each(alloc: Global, by: u64, held: &Held<Cells>) -> Result<Held<Cells>, AllocError>
     requires near { by ≤ most_moved }
     requires within { AreWithin widest held.now }
     ensures { IfOk result (λ made. made ≡ moving.lowered_all by held.now) }

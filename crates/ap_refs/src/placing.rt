@@ -233,7 +233,7 @@ impl Placing<'_> {
         };
         let mut rest = moves::copy(&place.cells)?;
         let args = arguments::take_all(self.alloc, args, &mut rest)?;
-        self.pass(statement, sig, branches, place, &args, &rest)
+        self.pass(statement, sig, branches, place, &args, rest)
     }
 
     /// What a libfunc's statement gives its branches, or its fault, where its arguments are taken and this rest is held.
@@ -244,11 +244,11 @@ impl Placing<'_> {
         branches: &[Branch],
         place: &Place,
         args: &[(u64, Cells)],
-        rest: &Held<Cells>,
+        rest: Held<Cells>,
     ) -> Result<Branches<Place, RefFault>, AllocError>
-        requires begin { CanBegin self.now.types.now sig.now branches.now place.now rest.now }
+        requires begin { CanBegin self.now.types.now sig.now branches.now place.now rest }
         requires here { statement + 1 < 2 ^ 64 }
-        ensures { IfOk result (λ parts. AreFirst parts.given.items parts.fault (flow.taken_parts self.now.types.now statement sig.now place.now branches.now (args.now, rest.now))) }
+        ensures { IfOk result (λ parts. AreFirst parts.given.items parts.fault (flow.taken_parts self.now.types.now statement sig.now place.now branches.now (args.now, rest))) }
     {
         if let [only] = args {
             return self.pass_cells(statement, sig, branches, place, args, only.1.items(), rest);
@@ -266,12 +266,12 @@ impl Placing<'_> {
         place: &Place,
         args: &[(u64, Cells)],
         cells: &[CellExpr],
-        rest: &Held<Cells>,
+        rest: Held<Cells>,
     ) -> Result<Branches<Place, RefFault>, AllocError>
-        requires begin { CanBegin self.now.types.now sig.now branches.now place.now rest.now }
+        requires begin { CanBegin self.now.types.now sig.now branches.now place.now rest }
         requires here { statement + 1 < 2 ^ 64 }
         requires cells { cells.now ≡ arguments_of.joined args.now }
-        ensures { IfOk result (λ parts. AreFirst parts.given.items parts.fault (flow.taken_parts self.now.types.now statement sig.now place.now branches.now (args.now, rest.now))) }
+        ensures { IfOk result (λ parts. AreFirst parts.given.items parts.fault (flow.taken_parts self.now.types.now statement sig.now place.now branches.now (args.now, rest))) }
     {
         let step = locals::local_step(self.types, sig.libfunc, place.ap, place.locals);
         let fault = invoke_fault(
@@ -279,7 +279,7 @@ impl Placing<'_> {
             sig.libfunc,
             cells.len() as u64,
             args,
-            rest,
+            &rest,
             step,
         );
         let Some((locals, amount)) = step else {
@@ -294,12 +294,11 @@ impl Placing<'_> {
             sig,
             place,
             args: cells,
-            rest,
             locals,
             amount,
         };
         Ok(Branches {
-            given: passing.give_all(statement, branches)?,
+            given: passing.give_all(statement, branches, rest)?,
             fault: None,
         })
     }

@@ -14,13 +14,13 @@ give_all-requires-clause-step c =
     let sig = c.args.sig.now in
     let step = c.local_step-step.result in
     let none = sym (c.invoke_fault-fault.ensures types) ∙ not_some c.invoke_fault-fault.result c.if-is_some.ensures in
-    can_step types c.args.statement sig c.args.branches.now c.args.place.now c.args.args.now c.args.cells.now c.args.rest.now c.in-Some.locals c.in-Some.amount c.requires.begin
-    c.requires.cells (step_none c.args.statement types sig.libfunc c.args.args.now c.args.rest.now step none).0
+    can_step types c.args.statement sig c.args.branches.now c.args.place.now c.args.args.now c.args.cells.now c.args.rest c.in-Some.locals c.in-Some.amount c.requires.begin
+    c.requires.cells (step_none c.args.statement types sig.libfunc c.args.args.now c.args.rest step none).0
     (sym c.local_step-step.ensures ∙ c.in-Some.is)
 
 pub returns : goal.returns
 returns c =
     let types = c.args.self.now.types.now in
-    pass_done types c.args.statement c.args.sig.now c.args.place.now c.args.branches.now c.args.args.now c.args.rest.now c.args.cells.now c.in-Some.locals c.in-Some.amount
+    pass_done types c.args.statement c.args.sig.now c.args.place.now c.args.branches.now c.args.args.now c.args.rest c.args.cells.now c.in-Some.locals c.in-Some.amount
     c.local_step-step.result c.invoke_fault-fault.result c.in_ok-give_all.field-0.items c.requires.cells c.in-Some.is c.local_step-step.ensures
     (c.invoke_fault-fault.ensures types) (not_some c.invoke_fault-fault.result c.if-is_some.ensures) c.in_ok-give_all.ensures

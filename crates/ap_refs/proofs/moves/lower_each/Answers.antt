@@ -1,6 +1,6 @@
 use Rattle.std.proofs.Common.{◌≤◌, length, ap, arith}
 use Rattle.ap_refs.proofs.Lists.{rises_named}
-use Rattle.ap_refs.proofs.moves.lower_all.Goals as goal
+use Rattle.ap_refs.proofs.moves.lower_each.Goals as goal
 
 pub from_rising-requires : goal.from_rising-requires
 from_rising-requires c =
