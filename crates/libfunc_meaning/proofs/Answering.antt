@@ -1,21 +1,22 @@
 -- Every family but a call: there is an answer, there is one, and it is of the types of its branch.
-use Rattle.std.proofs.Common.{◌≡◌, ℕ, List, [], ◌∷◌, Option, Some, refl, sym, ap, subst}
+use Rattle.std.proofs.Common.{◌≡◌, ℕ, List, [], ◌∷◌, Some, length, refl, ap, subst}
 use Rattle.std.specs.Option.{unwrap_or}
-use Rattle.std.specs.FinMap.{get, insert}
-use Rattle.type_trees.specs.Ty.{Ty}
+use Rattle.std.specs.FinMap.{get}
+use Rattle.type_trees.specs.Ty.{Ty, array, snapshot}
 use Rattle.type_trees.specs.declared.num.Num.{Num}
 use Rattle.type_trees.specs.declared.num.Num.TheVariants as nums
 use Rattle.libfunc_registry.specs.Fam.{Fam, control, gas, felts, integers, data_, arrays, dictionaries, takes, gives}
-use Rattle.libfunc_registry.specs.Dictionaries.{DictionariesFam, dict_new, dict_entry_get, dict_entry_finalize, dict_squash, dict_entries}
+use Rattle.libfunc_registry.specs.Arrays.{array_new, array_append, array_len, array_get, array_pop_front}
+use Rattle.libfunc_registry.specs.Dictionaries.{dict_new, dict_entry_get, dict_entry_finalize, dict_squash, dict_entries}
 use Rattle.value_trees.specs.Of.{AllOf, AreWords, IsOpenMap}
-use Rattle.value_trees.specs.Val.{Val, Plain, WordMap, OpenMap}
+use Rattle.value_trees.specs.Val.{Val, Plain, WordMap, OpenMap, vals_of, list_of}
 use Rattle.value_trees.specs.Val as val
 use Rattle.libfunc_meaning.specs.Dictionaries.{mapped, DictionariesDo}
 use Rattle.libfunc_meaning.specs.Do.{does, Do}
-use Rattle.libfunc_meaning.specs.Mapped.{plain_does, mapped_does}
+use Rattle.libfunc_meaning.specs.Mapped.{plain_does}
 use Rattle.libfunc_meaning.specs.Kept.{AreOfBranch}
-use Rattle.libfunc_meaning.specs.Proper.{IsAsked}
-use Rattle.libfunc_meaning.proofs.Typed.{IsAnswered, kept}
+use Rattle.libfunc_meaning.specs.Proper.{IsAsked, IsProper, IsNoCall}
+use Rattle.libfunc_meaning.proofs.Typed.{IsAnswered, kept, at_one, at_array}
 use Rattle.libfunc_meaning.proofs.ControlTypes.{control_answers}
 use Rattle.libfunc_meaning.proofs.GasTypes.{gas_answers}
 use Rattle.libfunc_meaning.proofs.FeltsTypes.{felts_answers}
@@ -91,12 +92,35 @@ one_answer (dictionaries (dict_entry_finalize n)) vs amount j k us outs a b = (c
 one_answer (dictionaries (dict_squash n)) vs amount j k us outs a b = (cc, one_squashed vs n us outs a.1 b.1)
 one_answer (dictionaries (dict_entries n)) vs amount j k us outs a b = same_answer (dictionaries (dict_entries n)) vs amount j k us outs a b
 
-pub never_stuck : (fam : Fam) (vs : List Plain) (amount : ℕ) → IsAsked fam vs → AllOf AreWords IsOpenMap (takes fam) vs
+-- an answer that is computed is one
+there_is : (fam : Fam) (vs : List Plain) (amount : ℕ) → IsAsked fam vs → AllOf AreWords IsOpenMap (takes fam) vs
     → (k : ℕ) × (outs : List Plain) × Do mapped fam vs amount k outs
-never_stuck fam vs amount asked h =
+there_is fam vs amount asked h =
     let answer = plain_answers fam vs amount asked h in
     let done : Do mapped fam vs amount answer.branch answer.outs = plain_done fam vs amount answer.branch answer.outs h answer.is in
     (answer.branch, answer.outs, done)
+
+-- also where an array's length is one that no u32 tells
+told : (ty : Ty) (vs : List Plain) (amount : ℕ) → AllOf AreWords IsOpenMap (takes (arrays (array_len ty))) vs
+    → (k : ℕ) × (outs : List Plain) × Do mapped (arrays (array_len ty)) vs amount k outs
+told ty vs amount h =
+    at_one AreWords IsOpenMap (λ us. (k : ℕ) × (outs : List Plain) × Do mapped (arrays (array_len ty)) us amount k outs) (snapshot (array ty)) vs h (λ a a_is.
+    at_array AreWords IsOpenMap (λ b. (k : ℕ) × (outs : List Plain) × Do mapped (arrays (array_len ty)) (b ∷ []) amount k outs) ty a a_is (λ us all.
+    (0, val.number nums.U32 (length (list_of (vals_of us))) ∷ [], refl)))
+
+pub never_stuck : (fam : Fam) (vs : List Plain) (amount : ℕ) → IsProper fam → IsNoCall fam → AllOf AreWords IsOpenMap (takes fam) vs
+    → (k : ℕ) × (outs : List Plain) × Do mapped fam vs amount k outs
+never_stuck (control fam) vs amount proper no_call h = there_is (control fam) vs amount (record { proper = proper; no_call = no_call; counted = tt }) h
+never_stuck (gas fam) vs amount proper no_call h = there_is (gas fam) vs amount (record { proper = proper; no_call = no_call; counted = tt }) h
+never_stuck (felts fam) vs amount proper no_call h = there_is (felts fam) vs amount (record { proper = proper; no_call = no_call; counted = tt }) h
+never_stuck (integers fam) vs amount proper no_call h = there_is (integers fam) vs amount (record { proper = proper; no_call = no_call; counted = tt }) h
+never_stuck (data_ fam) vs amount proper no_call h = there_is (data_ fam) vs amount (record { proper = proper; no_call = no_call; counted = tt }) h
+never_stuck (arrays (array_new ty)) vs amount proper no_call h = there_is (arrays (array_new ty)) vs amount (record { proper = proper; no_call = no_call; counted = tt }) h
+never_stuck (arrays (array_append ty)) vs amount proper no_call h = there_is (arrays (array_append ty)) vs amount (record { proper = proper; no_call = no_call; counted = tt }) h
+never_stuck (arrays (array_len ty)) vs amount proper no_call h = told ty vs amount h
+never_stuck (arrays (array_get ty)) vs amount proper no_call h = there_is (arrays (array_get ty)) vs amount (record { proper = proper; no_call = no_call; counted = tt }) h
+never_stuck (arrays (array_pop_front ty)) vs amount proper no_call h = there_is (arrays (array_pop_front ty)) vs amount (record { proper = proper; no_call = no_call; counted = tt }) h
+never_stuck (dictionaries fam) vs amount proper no_call h = there_is (dictionaries fam) vs amount (record { proper = proper; no_call = no_call; counted = tt }) h
 
 pub types_are_kept : (fam : Fam) (vs : List Plain) (amount k : ℕ) (outs : List Plain) → IsAsked fam vs → AllOf AreWords IsOpenMap (takes fam) vs
     → Do mapped fam vs amount k outs → AreOfBranch AreWords IsOpenMap (gives fam) k outs

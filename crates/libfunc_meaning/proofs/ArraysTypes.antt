@@ -1,8 +1,8 @@
 -- Arrays: there is an answer, of the types of its branch.
-use Rattle.std.proofs.Common.{◌≡◌, ℕ, zero, suc, ◌<◌, ◌^◌, List, [], ◌∷◌, ◌++◌, Option, Some, None, length, slice_get, refl, sym, subst}
+use Rattle.std.proofs.Common.{◌≡◌, ℕ, zero, suc, ◌<◌, ◌^◌, List, [], ◌∷◌, ◌++◌, Some, None, length, slice_get, refl, sym, subst}
 use Rattle.std.specs.Option.{option_map_or}
 use Rattle.std.specs.List.{AllByRecursion}
-use Rattle.type_trees.specs.Ty.{Ty, range_check, box, array, snapshot, duplicable, snap}
+use Rattle.type_trees.specs.Ty.{Ty, range_check, box, array, snapshot, snap}
 use Rattle.type_trees.specs.declared.num.Num.{Num}
 use Rattle.type_trees.specs.declared.num.Num.TheVariants as nums
 use Rattle.libfunc_registry.specs.Arrays.{ArraysFam, array_new, array_append, array_len, array_get, array_pop_front, arrays_takes, arrays_gives, u32}

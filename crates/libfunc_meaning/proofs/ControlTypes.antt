@@ -1,6 +1,6 @@
 -- Control and places: there is an answer, of the types of its branch.
-use Rattle.std.proofs.Common.{List, [], ◌∷◌, refl}
-use Rattle.type_trees.specs.Ty.{Ty, uninitialized}
+use Rattle.std.proofs.Common.{List, refl}
+use Rattle.type_trees.specs.Ty.{uninitialized}
 use Rattle.type_trees.specs.declared.num.Num.{Num}
 use Rattle.libfunc_registry.specs.Control.{ControlFam, branch_align, jump, rename, dup, drop, store_temp, store_local, alloc_local, finalize_locals, disable_ap_tracking, enable_ap_tracking, control_takes, control_gives}
 use Rattle.value_trees.specs.Of.{AllOf}

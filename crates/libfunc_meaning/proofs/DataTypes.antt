@@ -1,5 +1,5 @@
 -- Enums, structs, snapshots and boxes: there is an answer, of the types of its branch.
-use Rattle.std.proofs.Common.{◌≡◌, ℕ, zero, suc, ◌<◌, Bool, true, false, List, [], ◌∷◌, Option, Some, refl, sym, ap, ◌∙◌, subst, map, length, option_map, slice_get, get_or, if◌then◌else◌, arith}
+use Rattle.std.proofs.Common.{◌≡◌, ℕ, zero, suc, ◌<◌, true, false, List, [], ◌∷◌, Some, refl, sym, ap, ◌∙◌, subst, map, length, option_map, slice_get, get_or, if◌then◌else◌, arith}
 use Rattle.std.proofs.lemmas.Option.{slice_get-map}
 use Rattle.type_trees.specs.Ty.{Ty, Tys, range_check, box, snapshot, struct, enum, no_types, types, duplicable, snap}
 use Rattle.type_trees.specs.declared.num.Num.{Num}
@@ -9,7 +9,7 @@ use Rattle.value_trees.specs.Of.{AllOf, AreOf, IsOf, IsOfVariant}
 use Rattle.value_trees.specs.Val.{Val, vals_of, list_of}
 use Rattle.value_trees.specs.Val as val
 use Rattle.value_trees.proofs.Variants.{list_back}
-use Rattle.libfunc_meaning.specs.Answers.{Answer, branch}
+use Rattle.libfunc_meaning.specs.Answers.{branch}
 use Rattle.libfunc_meaning.specs.Data.{data_does}
 use Rattle.libfunc_meaning.specs.Proper.{IsProperData, IsEnum, IsStruct}
 use Rattle.libfunc_meaning.proofs.Typed.{IsAnswered, at_one, at_box, gives_one, gives_two}

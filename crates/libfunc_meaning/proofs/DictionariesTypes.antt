@@ -1,5 +1,5 @@
 -- Dictionaries: there is an answer, of the types of its branch, also by the relation.
-use Rattle.std.proofs.Common.{◌≡◌, ℕ, zero, suc, ◌<◌, Bool, true, false, List, [], ◌∷◌, Option, Some, None, cond, map, length, refl, sym, ap, ◌∙◌, subst, arith, Ordering, Less, Equal, Greater}
+use Rattle.std.proofs.Common.{◌≡◌, ℕ, ◌<◌, true, false, List, [], ◌∷◌, Option, Some, cond, map, length, refl, sym, ◌∙◌, subst, arith, Less, Equal, Greater}
 use Rattle.std.specs.List.{AllByRecursion}
 use Rattle.std.specs.Option.{unwrap_or}
 use Rattle.std.specs.Ordering.{nat_cmp, eq_by_cmp}
@@ -8,17 +8,16 @@ use Rattle.std.specs.FinMap.{entries, get, insert, find, put, get-entries, entri
 use Rattle.std.specs.FinMap as finite
 use Rattle.std.specs.FinMap.Entries.{by_order}
 use Rattle.felt64.specs.Field.{modulus}
-use Rattle.type_trees.specs.Ty.{Ty, Tys, number, range_check, array, dict, dict_entry, squashed_dict, no_types, types}
+use Rattle.type_trees.specs.Ty.{number, range_check, array, dict, dict_entry, squashed_dict, no_types, types}
 use Rattle.type_trees.specs.declared.num.Num.{Num}
 use Rattle.type_trees.specs.declared.num.Num.TheVariants as nums
 use Rattle.type_table.specs.Shapes.{access}
-use Rattle.libfunc_registry.specs.Fam.{Fam, dictionaries}
+use Rattle.libfunc_registry.specs.Fam.{dictionaries}
 use Rattle.libfunc_registry.specs.Dictionaries.{DictionariesFam, dict_new, dict_entry_get, dict_entry_finalize, dict_squash, dict_entries, dictionaries_takes, dictionaries_gives, felt}
 use Rattle.value_trees.specs.Of.{AllOf, AreOf, IsOf, AreWords, IsOpenMap, bound}
 use Rattle.value_trees.specs.Val.{Val, Plain, WordMap, OpenMap, vals_of}
 use Rattle.value_trees.specs.Val as val
-use Rattle.libfunc_meaning.specs.Answers.{Answer, branch}
-use Rattle.libfunc_meaning.specs.Dictionaries.{Dictionary, mapped, DictionariesDo, dictionaries_does, entry_of}
+use Rattle.libfunc_meaning.specs.Dictionaries.{mapped, dictionaries_does, entry_of}
 use Rattle.libfunc_meaning.specs.Do.{Do}
 use Rattle.libfunc_meaning.specs.Mapped.{mapped_does}
 use Rattle.libfunc_meaning.proofs.Typed.{IsAnswered, at_none, at_one, at_two, at_three, at_number, gives_one, gives_two, gives_three}

@@ -1,12 +1,12 @@
 -- Felts and constants: there is an answer, of the types of its branch.
-use Rattle.std.proofs.Common.{◌≡◌, ◌≢◌, ℕ, ◌==◌, ◌<◌, ◌%◌, true, false, List, [], ◌∷◌, refl, arith}
+use Rattle.std.proofs.Common.{◌≢◌, ℕ, ◌==◌, ◌<◌, ◌%◌, List, [], ◌∷◌, refl, arith}
 use Rattle.std.proofs.lemmas.Bool.Decides.{nat_tests}
 use Rattle.felt64.specs.Field.{modulus, sum, difference, product}
-use Rattle.type_trees.specs.Ty.{Ty, number, nonzero}
+use Rattle.type_trees.specs.Ty.{number, nonzero}
 use Rattle.type_trees.specs.declared.num.Num.{Num}
 use Rattle.type_trees.specs.declared.num.Num.TheVariants as nums
 use Rattle.libfunc_registry.specs.Felts.{FeltsFam, const, felt64_add, felt64_sub, felt64_mul, is_zero, unwrap_non_zero, felts_takes, felts_gives, felt}
-use Rattle.value_trees.specs.Of.{AllOf, IsOf, bound}
+use Rattle.value_trees.specs.Of.{AllOf, bound}
 use Rattle.value_trees.specs.Val.{Val}
 use Rattle.value_trees.specs.Val as val
 use Rattle.libfunc_meaning.specs.Answers.{branch}

@@ -1,7 +1,6 @@
 -- Gas: there is an answer, of the types of its branch.
-use Rattle.std.proofs.Common.{◌≡◌, ℕ, ◌-◌, ◌<◌, ◌≤◌, ◌^◌, true, false, List, [], ◌∷◌, refl, arith, nat_le}
-use Rattle.std.proofs.lemmas.Bool.Decides.{nat_tests}
-use Rattle.type_trees.specs.Ty.{Ty, range_check, gas_builtin}
+use Rattle.std.proofs.Common.{◌≡◌, ℕ, ◌-◌, ◌<◌, ◌^◌, List, [], ◌∷◌, refl, arith, nat_le}
+use Rattle.type_trees.specs.Ty.{range_check, gas_builtin}
 use Rattle.type_trees.specs.declared.num.Num.{Num}
 use Rattle.libfunc_registry.specs.Fam.{gas}
 use Rattle.libfunc_registry.specs.Gas.{GasFam, function_call, withdraw_gas, gas_takes, gas_gives}
@@ -10,7 +9,7 @@ use Rattle.value_trees.specs.Val.{Val}
 use Rattle.value_trees.specs.Val as val
 use Rattle.libfunc_meaning.specs.Gas.{gas_does}
 use Rattle.libfunc_meaning.specs.Proper.{IsNoCall}
-use Rattle.libfunc_meaning.specs.Answers.{Answer, branch}
+use Rattle.libfunc_meaning.specs.Answers.{branch}
 use Rattle.libfunc_meaning.proofs.Typed.{IsAnswered, at_two, at_gas, at_test, gives_two}
 
 module _ {D E : Type 0} (OfDict : Num → D → Type 0) (OfEntry : Num → E → Type 0) where

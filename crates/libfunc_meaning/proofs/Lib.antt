@@ -7,5 +7,6 @@ pub mod DictionariesTypes
 pub mod FeltsTypes
 pub mod GasTypes
 pub mod IntegersTypes
+pub mod Shapes
 pub mod Short
 pub mod Typed

@@ -1,12 +1,12 @@
 -- Short values: an array among them has a length that can be told.
-use Rattle.std.proofs.Common.{◌≡◌, ℕ, suc, ◌-◌, ◌<◌, ◌≤◌, ◌^◌, List, [], ◌∷◌, length, max, refl, sym, ap, subst, arith}
+use Rattle.std.proofs.Common.{◌≡◌, suc, ◌-◌, ◌<◌, ◌^◌, List, [], ◌∷◌, length, max, refl, ap, subst, arith}
 use Rattle.std.specs.FinMap.{len}
 use Rattle.libfunc_registry.specs.Arrays.{array_new, array_append, array_len, array_get, array_pop_front}
 use Rattle.libfunc_registry.specs.Fam.{Fam, control, gas, felts, integers, data_, arrays, dictionaries}
-use Rattle.value_trees.specs.Measures.{count, longest, longest_of}
+use Rattle.value_trees.specs.Measures.{count, longest_of}
 use Rattle.value_trees.specs.Val.{Val, Plain, WordMap, OpenMap, vals_of}
 use Rattle.value_trees.specs.Val as val
-use Rattle.libfunc_meaning.specs.Applying.{IsShort, AreShort}
+use Rattle.libfunc_meaning.specs.Applying.{AreShort}
 use Rattle.libfunc_meaning.specs.Proper.{IsCounted}
 
 pub count_list : {D E : Type 0} (us : List (Val D E)) → count (vals_of us) ≡ length us

@@ -1,7 +1,7 @@
 -- Values of a type taken apart, and answers that are of a branch's types.
-use Rattle.std.proofs.Common.{◌≡◌, ◌≢◌, ℕ, ◌<◌, ◌^◌, Bool, true, false, List, [], ◌∷◌, Option, Some, None, refl, sym, subst, if◌then◌else◌, slice_get}
+use Rattle.std.proofs.Common.{◌≡◌, ◌≢◌, ℕ, ◌<◌, ◌^◌, Bool, true, false, List, [], ◌∷◌, Some, refl, sym, subst, if◌then◌else◌, slice_get}
 use Rattle.std.specs.List.{AllByRecursion}
-use Rattle.type_trees.specs.Ty.{Ty, number, nonzero, range_check, gas_builtin, box, array}
+use Rattle.type_trees.specs.Ty.{Ty, number, nonzero, gas_builtin, box, array}
 use Rattle.type_trees.specs.declared.num.Num.{Num}
 use Rattle.value_trees.specs.Of.{IsOf, AllOf, bound}
 use Rattle.value_trees.specs.Val.{Val, vals_of}

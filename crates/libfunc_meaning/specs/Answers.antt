@@ -1,7 +1,7 @@
 -- What a libfunc answers, and values taken apart. Values of other kinds than a libfunc takes have no answer.
 use Rattle.std.specs.Prelude.{ℕ, List, [], ◌∷◌, Option, Some, None}
-use Rattle.value_trees.specs.Val.{Val, Vals, WordMap, list_of}
-use Rattle.value_trees.specs.Val as val
+use Rattle.value_trees.specs.Parts.{number_of, gas_of, members_of, variant_of, elements_of, boxed_of, squashed_of}
+use Rattle.value_trees.specs.Val.{Val, WordMap}
 
 -- the branch that is taken, and its results
 abbrev pub Answer : (D E : Type 0) → Type 0
@@ -32,34 +32,28 @@ module _ {D E : Type 0} where
   of_three [] answer = None
   of_three (v ∷ vs) answer = of_two vs (answer v)
 
-  -- the number of a value
+  -- the part of a value, where it has that part
+  abbrev pub with_part : {X : Type 0} → Option X → (X → Answer D E) → Answer D E
+  with_part None answer = None
+  with_part (Some x) answer = answer x
+
   abbrev pub with_number : Val D E → (ℕ → Answer D E) → Answer D E
-  with_number (val.number k n) answer = answer n
-  with_number _ answer = None
+  with_number v answer = with_part (number_of v) answer
 
   abbrev pub with_gas : Val D E → (ℕ → Answer D E) → Answer D E
-  with_gas (val.gas n) answer = answer n
-  with_gas _ answer = None
+  with_gas v answer = with_part (gas_of v) answer
 
-  -- the members of a struct
   abbrev pub with_members : Val D E → (List (Val D E) → Answer D E) → Answer D E
-  with_members (val.struct vs) answer = answer (list_of vs)
-  with_members _ answer = None
+  with_members v answer = with_part (members_of v) answer
 
-  -- the index and the payload of an enum
   abbrev pub with_variant : Val D E → (ℕ → Val D E → Answer D E) → Answer D E
-  with_variant (val.enum index payload) answer = answer index payload
-  with_variant _ answer = None
+  with_variant v answer = with_part (variant_of v) (λ p. answer p.0 p.1)
 
-  -- the elements of an array
   abbrev pub with_elements : Val D E → (List (Val D E) → Answer D E) → Answer D E
-  with_elements (val.array vs) answer = answer (list_of vs)
-  with_elements _ answer = None
+  with_elements v answer = with_part (elements_of v) answer
 
   abbrev pub with_boxed : Val D E → (Val D E → Answer D E) → Answer D E
-  with_boxed (val.boxed v) answer = answer v
-  with_boxed _ answer = None
+  with_boxed v answer = with_part (boxed_of v) answer
 
   abbrev pub with_squashed : Val D E → (WordMap → Answer D E) → Answer D E
-  with_squashed (val.squashed_dict m) answer = answer m
-  with_squashed _ answer = None
+  with_squashed v answer = with_part (squashed_of v) answer

@@ -2,7 +2,7 @@
 -- its group.
 use Rattle.std.specs.Prelude.{◌≡◌, ℕ, List, Some}
 use Rattle.libfunc_registry.specs.Fam.{Fam, control, gas, felts, integers, data_, arrays, dictionaries}
-use Rattle.libfunc_registry.specs.Dictionaries.{dict_new, dict_entry_get, dict_entry_finalize, dict_squash, dict_entries}
+use Rattle.libfunc_registry.specs.Dictionaries.{dict_new, dict_entry_get, dict_entry_finalize, dict_squash}
 use Rattle.value_trees.specs.Val.{Val}
 use Rattle.libfunc_meaning.specs.Answers.{Answer}
 use Rattle.libfunc_meaning.specs.Control.{control_does}

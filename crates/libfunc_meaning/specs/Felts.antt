@@ -1,5 +1,5 @@
 -- Felts and constants.
-use Rattle.std.specs.Prelude.{ℕ, ◌==◌, List, [], ◌∷◌, if◌then◌else◌}
+use Rattle.std.specs.Prelude.{◌==◌, List, [], ◌∷◌, if◌then◌else◌}
 use Rattle.felt64.specs.Field.{sum, difference, product}
 use Rattle.type_trees.specs.declared.num.Num.TheVariants as nums
 use Rattle.libfunc_registry.specs.Felts.{FeltsFam, const, felt64_add, felt64_sub, felt64_mul, is_zero, unwrap_non_zero}

@@ -1,14 +1,15 @@
 -- What every family does where a dictionary is a map, by computing. On values of the types that a family takes it says what
 -- `Do mapped` says.
-use Rattle.std.specs.Prelude.{ℕ, List, [], ◌∷◌, None}
+use Rattle.std.specs.Prelude.{ℕ, List, [], ◌∷◌}
 use Rattle.std.specs.Option.{unwrap_or}
 use Rattle.std.specs.FinMap.{get, insert}
 use Rattle.std.specs.FinMap as finite
-use Rattle.libfunc_registry.specs.Fam.{Fam, control, gas, felts, integers, data_, arrays, dictionaries}
+use Rattle.libfunc_registry.specs.Fam.{Fam, dictionaries}
 use Rattle.libfunc_registry.specs.Dictionaries.{DictionariesFam, dict_new, dict_entry_get, dict_entry_finalize, dict_squash, dict_entries}
+use Rattle.value_trees.specs.Parts.{dict_of, entry_of}
 use Rattle.value_trees.specs.Val.{Plain, WordMap, OpenMap}
 use Rattle.value_trees.specs.Val as val
-use Rattle.libfunc_meaning.specs.Answers.{Answer, gives, of_none, of_one, of_two, of_three, with_number}
+use Rattle.libfunc_meaning.specs.Answers.{Answer, gives, of_none, of_two, of_three, with_part, with_number}
 use Rattle.libfunc_meaning.specs.Dictionaries.{dictionaries_does}
 use Rattle.libfunc_meaning.specs.Do.{does}
 
@@ -16,12 +17,10 @@ abbrev pub PlainAnswer : Type 0
 PlainAnswer = Answer WordMap OpenMap
 
 abbrev pub with_dict : Plain → (WordMap → PlainAnswer) → PlainAnswer
-with_dict (val.dict m) answer = answer m
-with_dict _ answer = None
+with_dict v answer = with_part (dict_of v) answer
 
 abbrev pub with_entry : Plain → (OpenMap → PlainAnswer) → PlainAnswer
-with_entry (val.dict_entry e) answer = answer e
-with_entry _ answer = None
+with_entry v answer = with_part (entry_of v) answer
 
 abbrev pub mapped_does : DictionariesFam → List Plain → PlainAnswer
 mapped_does (dict_new k) vs = of_none vs (gives (val.dict finite.empty ∷ []))

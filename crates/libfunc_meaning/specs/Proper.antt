@@ -4,8 +4,8 @@ use Rattle.type_trees.specs.Ty.{Ty, Tys, struct, enum}
 use Rattle.type_table.specs.Trees.{listed}
 use Rattle.libfunc_registry.specs.declared.width.Width.TheVariants as widths
 use Rattle.libfunc_registry.specs.Arguments.{bits}
-use Rattle.libfunc_registry.specs.Fam.{Fam, control, gas, felts, integers, data_, arrays, dictionaries}
-use Rattle.libfunc_registry.specs.Gas.{GasFam, function_call, withdraw_gas}
+use Rattle.libfunc_registry.specs.Fam.{Fam, gas, felts, integers, data_, arrays}
+use Rattle.libfunc_registry.specs.Gas.{function_call}
 use Rattle.libfunc_registry.specs.Felts.{FeltsFam, const}
 use Rattle.libfunc_registry.specs.Integers.{IntegersFam, wide_mul, upcast}
 use Rattle.libfunc_registry.specs.Data.{DataFam, enum_init, enum_match, enum_snapshot_match, struct_construct, struct_deconstruct, struct_snapshot_deconstruct}

@@ -26,7 +26,7 @@ pub fn short_is_counted()
 
 /// With values of the types that it takes, every family but a call takes a branch.
 pub fn never_stuck()
-    ensures { (fam : Fam) (vs : List Plain) (amount : ℕ) → IsAsked fam vs → ArePlain (takes fam) vs → (k : ℕ) × (outs : List Plain) × Do mapped fam vs amount k outs }
+    ensures { (fam : Fam) (vs : List Plain) (amount : ℕ) → IsProper fam → IsNoCall fam → ArePlain (takes fam) vs → (k : ℕ) × (outs : List Plain) × Do mapped fam vs amount k outs }
 {}
 
 /// It takes one branch, and gives the same results each time.
