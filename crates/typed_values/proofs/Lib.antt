@@ -1,0 +1,14 @@
+mod ByKind
+mod FormSteps
+mod InputTexts
+mod Leading
+mod LineFacts
+mod Made
+mod Numbers
+mod OneText
+mod Printed
+mod ReadBoth
+mod TextForms
+mod ValueSteps
+mod ValuesComplete
+mod ValuesSound

@@ -1,0 +1,11 @@
+pub mod Behind
+pub mod Inputs
+pub mod Kinds
+pub mod Listing
+pub mod Making
+pub mod Marks
+pub mod Outcome
+pub mod Reading
+pub mod Shown
+pub mod Skimming
+pub mod Texts

@@ -1,0 +1,23 @@
+//! The texts of inputs and answers, and what main's values are made of them.
+//!
+//! Texts of inputs come in, and inputs or faults go out; values and answers come in, and their texts go out. The commands of the
+//! tool read and print by these calls.
+#![tactic(auto)]
+
+mod fault;
+mod input;
+mod laws;
+mod limits;
+mod making;
+mod marks;
+mod outcome;
+mod printing;
+mod reading;
+mod skimming;
+
+pub use fault::{InputFault, ValueLimit};
+pub use input::{Input, read_input};
+pub use laws::{one_text, texts_of_inputs};
+pub use making::beginning;
+pub use outcome::{Outcome, Verdict};
+pub use printing::{print_outcome, print_value, print_verdict};
