@@ -1,0 +1,13 @@
+//! What programs mean, and that every meaning ends.
+//!
+//! The definitions are in `specs/`: what one statement does (`Acts`), what a run of statements gives (`Mean`), what main gives
+//! (`Main`), and the outcome on an input (`Outcome`). The laws say that an accepted program means one outcome on each input that
+//! fits it and has the gas that its plan asks, after a number of statements that the gas bounds. All that runs a program or
+//! checks a run stands on them.
+#![tactic(auto)]
+
+mod laws;
+mod meanings;
+
+pub use laws::{builtins_are_given_back, main_ends, one_run, results_are_known};
+pub use meanings::{every_meaning_ends, gas_is_told, meanings_within_bound, one_meaning};
