@@ -1,5 +1,4 @@
 pub mod FewCells
-pub mod Chosen
 pub mod Fitting
 pub mod Runs
 pub mod Signatures

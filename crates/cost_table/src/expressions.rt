@@ -143,14 +143,25 @@ fn parts_of(
     ensures terms { all_terms result ≡ rows.terms_of args.now amount row cells (fam_of types.now libfunc) branch }
     ensures small { AreSmall result }
 {
-    control_parts(types, libfunc, amount)
-        .or(gas_parts(libfunc, row, cells, branch))
-        .or(felts_parts(libfunc, args, branch))
-        .or(integers_parts(libfunc, row, args, branch))
-        .or(data_parts(types, libfunc, row, branch))
-        .or(arrays_parts(types, libfunc, row, branch))
-        .or(dictionaries_parts(libfunc, row, cells))
-        .unwrap()
+    if let Some(parts) = control_parts(types, libfunc, amount) {
+        return parts;
+    }
+    if let Some(parts) = gas_parts(libfunc, row, cells, branch) {
+        return parts;
+    }
+    if let Some(parts) = felts_parts(libfunc, args, branch) {
+        return parts;
+    }
+    if let Some(parts) = integers_parts(libfunc, row, args, branch) {
+        return parts;
+    }
+    if let Some(parts) = data_parts(types, libfunc, row, branch) {
+        return parts;
+    }
+    if let Some(parts) = arrays_parts(types, libfunc, row, branch) {
+        return parts;
+    }
+    dictionaries_parts(libfunc, row, cells).unwrap()
 }
 
 /// How far ap has moved where a branch's results, of so many cells, are named.

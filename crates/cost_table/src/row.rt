@@ -69,12 +69,23 @@ pub(crate) fn row_of(types: &Types, libfunc: Libfunc, branch: usize) -> Row
     requires { IsPlaced types.now libfunc }
     ensures { result ≡ costs.row_of (fam_of types.now libfunc) branch }
 {
-    control_row(types, libfunc)
-        .or(gas_row(libfunc, branch))
-        .or(felts_row(libfunc))
-        .or(integers_row(libfunc, branch))
-        .or(data_row(types, libfunc, branch))
-        .or(arrays_row(types, libfunc, branch))
-        .or(dictionaries_row(libfunc))
-        .unwrap()
+    if let Some(row) = control_row(types, libfunc) {
+        return row;
+    }
+    if let Some(row) = gas_row(libfunc, branch) {
+        return row;
+    }
+    if let Some(row) = felts_row(libfunc) {
+        return row;
+    }
+    if let Some(row) = integers_row(libfunc, branch) {
+        return row;
+    }
+    if let Some(row) = data_row(types, libfunc, branch) {
+        return row;
+    }
+    if let Some(row) = arrays_row(types, libfunc, branch) {
+        return row;
+    }
+    dictionaries_row(libfunc).unwrap()
 }

@@ -38,6 +38,12 @@ not_both p t sigs main s plan is large =
     contrary : (a b d : ℕ) → a ≡ b → a < limit → b ≡ d → limit ≤ d → ⊥
     contrary a b d one two three four = omega arith
 
+-- out of memory is no fault of a program
+pub not_memory : (p : Program) (t : TypesView) (sigs : List Sig) (main : ℕ) (x : GasFault) → IsGasFault p t sigs main x → x ≢ Memory
+not_memory p t sigs main (Cycle statements) is = λ same. cc
+not_memory p t sigs main (TooLarge s) is = λ same. cc
+not_memory p t sigs main Memory is = absurd is
+
 pub never_both : (p : Program) (t : TypesView) (sigs : List Sig) (main : ℕ) (plan : PlanView) (fault : GasFault) → IsPlan p t sigs main plan → fault ≢ Memory → IsGasFault p t sigs main fault → ⊥
 never_both p t sigs main plan (Cycle statements) is not fault = least.not_small_on_a_cycle (program_terms p t sigs) plan.need statements is.needs fault
 never_both p t sigs main plan (TooLarge s) is not (inl large) = least.not_small_and_large (program_terms p t sigs) plan.need s is.needs large

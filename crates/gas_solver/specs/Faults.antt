@@ -24,11 +24,11 @@ pub record IsEntryTooLarge (p : Program) (t : TypesView) (sigs : List Sig) (main
 abbrev pub IsLeastFault : List (List Term) → GasFault → Type 0
 IsLeastFault terms (Cycle statements) = IsCycle (graph_of terms) statements
 IsLeastFault terms (TooLarge s) = IsTooLarge terms s
-IsLeastFault terms Memory = Unit {0}
+IsLeastFault terms Memory = ⊥
 
 -- The fault is right. The graph in which a cycle lies has no success branch of `withdraw_gas`; a call leads to its callee's
--- entry and to the next statement. Of memory nothing is said.
+-- entry and to the next statement. Out of memory is none of the program's faults.
 abbrev pub IsGasFault : Program → TypesView → List Sig → ℕ → GasFault → Type 0
 IsGasFault p t sigs main (Cycle statements) = IsCycle (graph_of (program_terms p t sigs)) statements
 IsGasFault p t sigs main (TooLarge s) = IsTooLarge (program_terms p t sigs) s ⊎ IsEntryTooLarge p t sigs main s
-IsGasFault p t sigs main Memory = Unit {0}
+IsGasFault p t sigs main Memory = ⊥

@@ -31,3 +31,8 @@ pub record HasWords (plan : PlanView) : Type 0 where
   pub needs : AllByRecursion (λ n. n < 2 ^ 64) plan.need
   pub amounts : AllByRecursion IsWordOrNone plan.amount
   pub entry : plan.entry < 2 ^ 64
+
+-- the end of a statement's line
+abbrev pub line_end : Option ℕ → List ℕ
+line_end None = codes "\n"
+line_end (Some amount) = codes " amount " ++ decimal amount ++ codes "\n"

@@ -1,6 +1,6 @@
 //! The terms and the amounts of a program's statements.
 
-ghost use Rattle.std.specs.Prelude.{◌≡◌, ◌<◌, ◌++◌, ◌∷◌, ◌+◌, ◌*◌, ◌^◌, ℕ, length, Some, IfOk, OnOk, slice_index};
+ghost use Rattle.std.specs.Prelude.{◌≡◌, ◌<◌, ◌++◌, ◌∷◌, [], ◌+◌, ◌*◌, ◌^◌, ℕ, length, Some, IfOk, OnOk, slice_index};
 ghost use Rattle.std.specs.List.{slice_get};
 ghost use Rattle.std.specs.Option.{option_copied};
 ghost use Rattle.sierra_types.specs.declared.program.Branch.{Branch as BranchOf};
@@ -50,8 +50,10 @@ impl Costs<'_> {
         ensures { IfOk result (λ all. all ≡ terms.program_terms self.now.program.now self.now.types.now self.now.sigs.now) }
     {
         let mut all = Terms::new(alloc);
+        let mut own = Vec::new(alloc);
         for (s, statement) in self.program.statements.items().iter().enumerate() {
-            let own = self.statement_terms(alloc, s, statement)?;
+            own.clear();
+            self.push_terms(&mut own, s, statement)?;
             all.add(&own)?;
         }
         Ok(all)
@@ -78,52 +80,54 @@ impl Costs<'_> {
         self.program.functions.items()[function].entry as usize
     }
 
-    /// The terms of a statement.
-    fn statement_terms(
+    /// Adds the terms of a statement to an empty list.
+    fn push_terms(
         &self,
-        alloc: Global,
+        own: &mut Vec<Term>,
         s: usize,
         statement: &Statement,
-    ) -> Result<Vec<Term>, AllocError>
+    ) -> Result<(), AllocError>
         requires prepared { IsPrepared self.now.program.now self.now.types.now self.now.sigs.now self.now.libfuncs }
         requires here { slice_get self.now.program.now.statements s ≡ Some statement.now }
         requires few { s + 1 < 2 ^ 64 }
-        ensures { IfOk result (λ own. own.items ≡ terms.statement_terms self.now.program.now self.now.types.now self.now.sigs.now s statement.now) }
+        requires empty { own.old.items ≡ [] }
+        ensures { OnOk result (own.new.items ≡ terms.statement_terms self.now.program.now self.now.types.now self.now.sigs.now s statement.now) }
     {
         match statement {
-            Statement::Return { .. } => Ok(vec![in alloc; RETURN]?),
+            Statement::Return { .. } => push(own, RETURN),
             Statement::Invoke {
                 libfunc,
                 branches,
                 ..
             } => match self.sig_of(libfunc) {
-                Some(sig) => self.branch_terms(alloc, s, sig, branches.items()),
-                None => Ok(Vec::new(alloc)),
+                Some(sig) => self.push_branches(own, s, sig, branches.items()),
+                None => Ok(()),
             },
         }
     }
 
-    /// The terms of the branches of a statement.
-    fn branch_terms(
+    /// Adds the terms of the branches of a statement to an empty list.
+    fn push_branches(
         &self,
-        alloc: Global,
+        own: &mut Vec<Term>,
         s: usize,
         sig: &Sig,
         branches: &[Branch],
-    ) -> Result<Vec<Term>, AllocError>
+    ) -> Result<(), AllocError>
         requires signature { HasSignature self.now.program.now self.now.types.now s sig.now branches.now }
         requires few { s + 1 < 2 ^ 64 }
-        ensures { IfOk result (λ own. own.items ≡ terms.branch_terms self.now.program.now self.now.types.now sig.now s 0 branches.now) }
+        requires empty { own.old.items ≡ [] }
+        ensures { OnOk result (own.new.items ≡ terms.branch_terms self.now.program.now self.now.types.now sig.now s 0 branches.now) }
     {
-        let mut own = Vec::with_capacity(alloc, branches.len())?;
         for (k, branch) in branches.iter().enumerate() {
             let target = target_of(s, branch.target) as usize;
-            own.push(Term {
+            let term = Term {
                 cost: charge(cost(self.types, sig, k)),
                 targets: self.branch_targets(sig.libfunc, k, target),
-            })?;
+            };
+            push(own, term)?;
         }
-        Ok(own)
+        Ok(())
     }
 
     /// Where a branch leads, by its number and target, as far as needs are added.
@@ -163,6 +167,13 @@ impl Costs<'_> {
     {
         self.sigs.get(self.libfuncs.find(id.bytes())?)
     }
+}
+
+/// Adds a term at the end.
+fn push(own: &mut Vec<Term>, term: Term) -> Result<(), AllocError>
+    ensures { OnOk result (own.new.items ≡ own.old.items ++ term ∷ []) }
+{
+    Ok(own.push(term)?)
 }
 
 /// The amount of a libfunc with these branches: what its target needs where `withdraw_gas` succeeds.

@@ -1,6 +1,6 @@
 //! Laws of gas plans. A law is a function without code, whose contract says what holds.
 
-ghost use Rattle.std.specs.Prelude.{◌≡◌, ◌≢◌, ◌↔◌, ◌<◌, ℕ, List, length, slice_index};
+ghost use Rattle.std.specs.Prelude.{◌≡◌, ◌↔◌, ◌<◌, ℕ, List, length, slice_index};
 ghost use Rattle.graph_cycles.specs.Graph.{IsClosed, Leads, OnCycle};
 ghost use Rattle.sierra_types.specs.declared.program.Program.{Program};
 ghost use Rattle.type_table.specs.View.{TypesView};
@@ -12,7 +12,6 @@ ghost use Rattle.least_needs.specs.Needs.{AreNeeds, Meets};
 ghost use Rattle.least_needs.specs.Terms.{FreeLeadOn, graph_of};
 ghost use Rattle.gas_solver.specs.Balance.{IsBalanced, HasBalancedFunctions};
 ghost use Rattle.gas_solver.specs.declared.fault.GasFault.{GasFault};
-ghost use Rattle.gas_solver.specs.declared.fault.GasFault.TheVariants.{Memory};
 ghost use Rattle.gas_solver.specs.Edges.{StatementLeads};
 ghost use Rattle.gas_solver.specs.Equations.{MeetEquations};
 ghost use Rattle.gas_solver.specs.Faults.{IsGasFault};
@@ -29,21 +28,21 @@ pub fn one_plan()
 
 /// A program has at most one fault.
 pub fn one_fault()
-    ensures { (p : Program) (t : TypesView) (sigs : List Sig) (main : ℕ) (x y : GasFault) → x ≢ Memory → y ≢ Memory →
+    ensures { (p : Program) (t : TypesView) (sigs : List Sig) (main : ℕ) (x y : GasFault) →
         IsGasFault p t sigs main x → IsGasFault p t sigs main y → x ≡ y }
 {}
 
 /// A program that has a plan has no fault.
 pub fn never_both()
     ensures { (p : Program) (t : TypesView) (sigs : List Sig) (main : ℕ) (plan : PlanView) (fault : GasFault) →
-        IsPlan p t sigs main plan → fault ≢ Memory → IsGasFault p t sigs main fault → ⊥ }
+        IsPlan p t sigs main plan → IsGasFault p t sigs main fault → ⊥ }
 {}
 
-/// It cannot be that a typed program has neither a plan nor a fault other than out of memory.
+/// It cannot be that a typed program has neither a plan nor a fault.
 pub fn plan_or_fault()
     ensures { (p : Program) (t : TypesView) (sigs : List Sig) (a : TypedList) (main : ℕ) → HasTypes p t → HasSignatures t p.libfuncs sigs →
         Typed p t sigs a → main < length p.functions → ((plan : PlanView) → IsPlan p t sigs main plan → ⊥) →
-        ((fault : GasFault) → fault ≢ Memory → IsGasFault p t sigs main fault → ⊥) → ⊥ }
+        ((fault : GasFault) → IsGasFault p t sigs main fault → ⊥) → ⊥ }
 {}
 
 /// Numbers meet the equations of a program's terms if and only if each is the greatest of what its statement's branches come

@@ -1,6 +1,6 @@
 //! The call that makes the gas plan.
 
-ghost use Rattle.std.specs.Prelude.{◌≡◌, ◌<◌, length, IfOk, IfErr, slice_index};
+ghost use Rattle.std.specs.Prelude.{◌≡◌, ◌≢◌, ◌<◌, length, IfOk, IfErr, slice_index};
 ghost use Rattle.type_table.specs.Table.{HasTypes};
 ghost use Rattle.libfunc_registry.specs.Signature.{HasSignatures};
 ghost use Rattle.linear_check.specs.Typed.{Typed};
@@ -13,15 +13,12 @@ ghost use Rattle.gas_solver.specs.Plans.{IsPlan};
 use crate::costs::Costs;
 use crate::fault::GasFault;
 use crate::plan::GasPlan;
-use least_needs::{Fault, Terms};
+use least_needs::{Fault, LIMIT, Terms};
 use libfunc_registry::Sig;
 use linear_check::Envs;
 use sierra_types::{List, Program};
 use std::alloc::{AllocError, Global};
 use type_table::{Types, libfunc_positions};
-
-/// The number from which on a need is too large.
-const LIMIT: u64 = 1 << 32;
 
 /// The gas of main's call.
 const CALL: u64 = 100;
@@ -43,7 +40,7 @@ pub fn solve(
     requires typed { Typed program.now types.now sigs.now envs.now }
     requires main { main < length program.now.functions }
     ensures plan { IfOk result (IsPlan program.now types.now sigs.now main) }
-    ensures fault { IfErr result (IsGasFault program.now types.now sigs.now main) }
+    ensures fault { IfErr result (λ fault. fault ≢ GasFault.Memory → IsGasFault program.now types.now sigs.now main fault) }
 {
     let costs = Costs {
         program,
@@ -66,7 +63,7 @@ pub fn solve(
 fn least(alloc: Global, terms: &Terms) -> Result<Vec<u64>, GasFault>
     requires { IsClosed (graph_of terms.now) }
     ensures needs { IfOk result (λ needs. AreSmallNeeds terms.now needs.items) }
-    ensures fault { IfErr result (IsLeastFault terms.now) }
+    ensures fault { IfErr result (λ fault. fault ≢ GasFault.Memory → IsLeastFault terms.now fault) }
 {
     match least_needs::solve(alloc, terms) {
         Ok(needs) => Ok(needs),

@@ -19,4 +19,4 @@ pub use laws::{
     terms_are_paid,
 };
 pub use solving::{Fault, solve};
-pub use terms::{Targets, Term, Terms};
+pub use terms::{LIMIT, Targets, Term, Terms};

@@ -1,15 +1,15 @@
 -- A trace as it is stored.
-use Rattle.std.proofs.Common.{◌≡◌, ℕ, zero, suc, ◌+◌, ◌<◌, Bool, true, false, cond, List, [], ◌∷◌, ◌++◌, length, set, get_or, replicate, Option, Some, None, option_map, refl, sym, ap, subst, ◌∙◌, arith, inl, inr}
-use Rattle.std.specs.List.{slice_get, list_any}
+use Rattle.std.proofs.Common.{◌≡◌, ℕ, zero, suc, ◌+◌, ◌<◌, Bool, true, false, List, [], ◌∷◌, ◌++◌, length, set, get_or, replicate, Option, Some, None, option_map, refl, sym, ap, subst, ◌∙◌, arith, inl, inr}
+use Rattle.std.specs.List.{slice_get}
 use Rattle.std.specs.Ordering.{nat_cmp, is_gt}
 use Rattle.std.specs.Option.{IfNone}
-use Rattle.std.specs.BTreeMap.{is_at}
 use Rattle.std.proofs.lemmas.Bool.{cases_eq, false≢true}
 use Rattle.std.proofs.lemmas.Bool.Decides.{nat_tests}
 use Rattle.std.proofs.lemmas.Option.{none-some, same_Some, slice_get_within, slice_get_read, get_or_from_slice_get}
 use Rattle.std.proofs.lemmas.List.{append-nil}
 use Rattle.statement_walk.specs.Walk.{Seen, unseen, waiting, done, Trace, given, held_by, waiting_from, unseen_from, answers}
 use Rattle.statement_walk.specs.Marks.{mark, marks, AreSeen}
+use Rattle.statement_walk.specs.Waits.{has, Updated}
 use Rattle.statement_walk.proofs.Arrivals.{slice_get-set_same, slice_get-set_other, inside}
 
 pub slice_get-marks : {E : Type 0} (waits : ℕ → Bool) (s : ℕ) (xs : List (Option (ℕ × E))) (t : ℕ) → slice_get (marks waits s xs) t ≡ option_map (mark (waits (s + t))) (slice_get xs t)
@@ -53,10 +53,6 @@ given_mark false (Some (Some x)) = refl
 
 pub given-marks : {E : Type 0} (waits : ℕ → Bool) (xs : List (Option (ℕ × E))) (t : ℕ) → given (marks waits 0 xs) t ≡ flat (slice_get xs t)
 given-marks waits xs t = ap held_by (mark_at waits xs t) ∙ given_mark (waits t) (slice_get xs t)
-
--- an update of what waits
-abbrev pub Updated : (ℕ → Bool) → (ℕ → Bool) → ℕ → Bool → Type 0
-Updated before later t b = (q : ℕ) → later q ≡ cond (is_at (nat_cmp t) q) b (before q)
 
 updated_here : (before later : ℕ → Bool) (t : ℕ) (b : Bool) → Updated before later t b → later t ≡ b
 updated_here before later t b update = let here = update t in grind (arith, nat_tests)
@@ -152,11 +148,6 @@ least_waiting {E} waits xs t x member least has =
 pub none_waiting : {E : Type 0} (waits : ℕ → Bool) (xs : List (Option (ℕ × E))) → ((q : ℕ) → waits q ≡ false) → waiting_from 0 (marks waits 0 xs) ≡ None
 none_waiting waits xs none = none_from (marks waits 0 xs) 0 (λ j g d is. false≢true (sym (none j) ∙ marked_waits (waits j) (slice_get xs j) g d (sym (mark_at waits xs j) ∙ is)))
 
--- a set without keys
-pub no_keys : (keys : List ℕ) → length keys ≡ 0 → (q : ℕ) → list_any (is_at (nat_cmp q)) keys ≡ false
-no_keys [] empty q = refl
-no_keys (k ∷ ks) empty q = absurd (omega arith)
-
 -- what all statements have
 
 -- the first that isn't seen, counted from s
@@ -197,20 +188,13 @@ given_stored waits xs u t o view is = sym is ∙ sym (given-marks waits xs t) �
 
 -- the statement that comes next
 
-none_left : (keys : List ℕ) → (0 < length keys → false ≡ true) → length keys ≡ 0
-none_left [] some = refl
-none_left (k ∷ ks) some = absurd (false≢true (some (omega arith)))
+idle_if_none : {E : Type 0} (ks : List ℕ) (xs : List (Option (ℕ × E))) (u : Trace E) → marks (has ks) 0 xs ≡ u → ks ≡ [] → waiting_from 0 u ≡ None
+idle_if_none ks xs u view none = subst (λ v. waiting_from 0 v ≡ None) view (none_waiting (has ks) xs (λ q. ap (λ l. has l q) none))
 
-idle_if_empty : {E : Type 0} (keys : List ℕ) (xs : List (Option (ℕ × E))) (u : Trace E) → marks (λ q. list_any (is_at (nat_cmp q)) keys) 0 xs ≡ u → (0 < length keys → false ≡ true) → waiting_from 0 u ≡ None
-idle_if_empty keys xs u view some = subst (λ v. waiting_from 0 v ≡ None) view (none_waiting (λ q. list_any (is_at (nat_cmp q)) keys) xs (no_keys keys (none_left keys some)))
-
-same_keys : {E : Type 0} (old new : List ℕ) (xs : List (Option (ℕ × E))) (u : Trace E) → marks (λ q. list_any (is_at (nat_cmp q)) old) 0 xs ≡ u → new ≡ old → marks (λ q. list_any (is_at (nat_cmp q)) new) 0 xs ≡ u
-same_keys old new xs u view same = ap (λ ks. marks (λ q. list_any (is_at (nat_cmp q)) ks) 0 xs) same ∙ view
-
-pub if_idle : {A E : Type 0} (old new : List ℕ) (xs : List (Option (ℕ × E))) (u : Trace E) (o : Option A) → marks (λ q. list_any (is_at (nat_cmp q)) old) 0 xs ≡ u → (0 < length old → false ≡ true) → new ≡ old
-    → IfNone o ((waiting_from 0 u ≡ None) × (marks (λ q. list_any (is_at (nat_cmp q)) new) 0 xs ≡ u))
-if_idle old new xs u None view none same = (idle_if_empty old xs u view none, same_keys old new xs u view same)
-if_idle old new xs u (Some a) view none same = tt
+pub if_idle : {A E : Type 0} (old new : List ℕ) (xs : List (Option (ℕ × E))) (u : Trace E) (o : Option A) → marks (has old) 0 xs ≡ u → (old ≡ []) × (new ≡ [])
+    → IfNone o ((waiting_from 0 u ≡ None) × (marks (has new) 0 xs ≡ u))
+if_idle old new xs u None view none = (idle_if_none old xs u view none.0, ap (λ ks. marks (has ks) 0 xs) (none.1 ∙ sym none.0) ∙ view)
+if_idle old new xs u (Some a) view none = tt
 
 pub next_found : {E : Type 0} (before later : ℕ → Bool) (xs : List (Option (ℕ × E))) (u : Trace E) (t : ℕ) (x : ℕ × E) → marks before 0 xs ≡ u
     → before t ≡ true → ((q : ℕ) → before q ≡ true → is_gt (nat_cmp t q) ≡ false) → Updated before later t false → slice_get xs t ≡ Some (Some x)

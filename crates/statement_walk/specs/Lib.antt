@@ -4,4 +4,5 @@ pub mod Keeps
 pub mod Marks
 pub mod Rules
 pub mod Turning
+pub mod Waits
 pub mod Walk

@@ -9,6 +9,7 @@
 mod driver;
 mod laws;
 mod rules;
+mod waiting;
 mod walk;
 
 pub use driver::run;

@@ -5,29 +5,28 @@ ghost use Rattle.std.specs.List.{slice_get};
 ghost use Rattle.std.specs.Option.{option_copied};
 ghost use Rattle.statement_walk.specs.Walk.{Seen, unseen, waiting, done, given, waiting_from, unseen_from, answers};
 
+use crate::waiting::Waiting;
 use std::alloc::{AllocError, Global};
-use std::collections::BTreeSet;
 use std::marker::Model;
 
 /// What each statement has, and which statements wait for their turn.
 #[derive(Debug, Drop)]
 pub struct Walk<E> {
     stored: Vec<Option<(usize, E)>>,
-    waiting: BTreeSet<usize>,
+    waiting: Waiting,
 }
 
 impl<E> Model for Walk<E> {
     ghost use Rattle.std.specs.Prelude.{List};
-    ghost use Rattle.std.specs.Ordering.{nat_cmp};
-    ghost use Rattle.std.specs.BTreeSet.{contains};
     ghost use Rattle.statement_walk.specs.Walk.{Seen};
     ghost use Rattle.statement_walk.specs.Marks.{marks, AreSeen};
+    ghost use Rattle.statement_walk.specs.Waits.{has};
 
     ghost Value = { List (Seen E) };
 
-    ghost view = { λ w. marks (contains nat_cmp w.waiting) 0 w.stored.items };
+    ghost view = { λ w. marks (has w.waiting) 0 w.stored.items };
 
-    ghost invariant = { λ w. AreSeen (contains nat_cmp w.waiting) w.stored.items };
+    ghost invariant = { λ w. AreSeen (has w.waiting) w.stored.items };
 }
 
 /// Why a walk has no list.
@@ -61,7 +60,7 @@ impl<E: Drop> Walk<E> {
         }
         Ok(Walk {
             stored,
-            waiting: BTreeSet::new(alloc),
+            waiting: Waiting::new(alloc),
         })
     }
 
@@ -85,7 +84,7 @@ impl<E: Drop> Walk<E> {
         ensures next { IfSome result (λ x. (e : E) × (waiting_from 0 self.old ≡ Some (x.0, x.1, e)) × (self.new ≡ slice_set self.old x.0 (done x.1 e))) }
         ensures idle { IfNone result ((waiting_from 0 self.old ≡ None) × (self.new ≡ self.old)) }
     {
-        let statement = self.waiting.pop_first()?;
+        let statement = self.waiting.take_least()?;
         let (function, _) = self.stored[statement].as_ref()?;
         Some((statement, *function))
     }
@@ -96,7 +95,7 @@ impl<E: Drop> Walk<E> {
         ensures ok { OnOk result (self.new ≡ slice_set self.old statement (waiting function env)) }
         ensures err { OnErr result (self.new ≡ self.old) }
     {
-        self.waiting.insert(statement)?;
+        self.waiting.add(statement)?;
         self.stored[statement] = Some((function, env));
         Ok(())
     }

@@ -35,7 +35,7 @@ pub returns-then-entry-ge-LIMIT-clause-fault : goal.returns-then-entry-ge-LIMIT-
 returns-then-entry-ge-LIMIT-clause-fault c =
     let inside = start_inside c.args.program.now c.args.types.now c.args.sigs.now c.args.envs.now c.args.main c.entry-start.result c.in_ok-terms.terms c.in_ok-needs.needs.items
     c.requires.types c.requires.typed c.requires.main c.in_ok-terms.ensures c.in_ok-needs.ensures.needs c.entry-start.ensures in
-    entry_fault c.args.program.now c.args.types.now c.args.sigs.now c.args.main c.entry-start.result c.index.result.now (100 + c.index.result.now) c.in_ok-terms.terms c.in_ok-needs.needs.items
+    λ not. entry_fault c.args.program.now c.args.types.now c.args.sigs.now c.args.main c.entry-start.result c.index.result.now (100 + c.index.result.now) c.in_ok-terms.terms c.in_ok-needs.needs.items
     c.in_ok-terms.ensures c.in_ok-needs.ensures.needs c.entry-start.ensures inside c.index.ensures refl c.if-entry-ge-LIMIT.true
 
 pub amounts-requires-clause-prepared : goal.amounts-requires-clause-prepared
