@@ -48,11 +48,11 @@ module _ (program : Program) (t u : TypesView) (first : HasTypes program t) (sec
 module _ (program : Program) (t u : TypesView) (sigs others : List Sig)
     (first : HasTypes program t) (second : HasTypes program u)
     (has : HasSignatures t program.libfuncs sigs) (has' : HasSignatures u program.libfuncs others) where
-  same_signatures : sigs ≡ others
+  pub same_signatures : sigs ≡ others
   same_signatures = libfunc_laws.one_signature u second.kept program.libfuncs sigs others (moved program t u first second (λ (x : TypesView). HasSignatures x program.libfuncs sigs) has) has'
 
   -- what holds over the one's tables holds over the other's
-  moved_both : (P : TypesView → List Sig → Type 0) → P t sigs → P u others
+  pub moved_both : (P : TypesView → List Sig → Type 0) → P t sigs → P u others
   moved_both P holds = subst (P u) same_signatures (moved program t u first second (λ (x : TypesView). P x sigs) holds)
 
 module _ (program : Program) (t u : TypesView) (sigs others : List Sig) (envs more : TypedList)
@@ -84,7 +84,7 @@ no_places program fault t u sigs others envs more a typed typed' placed p =
     (moved_all program t u sigs others envs more typed typed' (λ x xs. places.FirstFault program x xs fault) p)
 
 -- main is one, whatever the tables
-same_entry : (program : Program) (t u : TypesView) → HasTypes program t → HasTypes program u → entry_of program t ≡ entry_of program u
+pub same_entry : (program : Program) (t u : TypesView) → HasTypes program t → HasTypes program u → entry_of program t ≡ entry_of program u
 same_entry program t u first second = ap (entry_of program) (same_types program t u first second)
 
 two_entries : (program : Program) (t u : TypesView) (main : ℕ) (fault : EntryFault) → HasTypes program t → HasTypes program u → entry_of program t ≡ Ok main → entry_of program u ≡ Err fault → ⊥
@@ -93,7 +93,7 @@ two_entries program t u main fault first second is other = let same = same_entry
 same_fault : (a b : EntryFault) → ◌≡◌ {A = Result ℕ EntryFault} (Err a) (Err b) → a ≡ b
 same_fault a b same = cc
 
-same_place : (a b : ℕ) → ◌≡◌ {A = Result ℕ EntryFault} (Ok a) (Ok b) → a ≡ b
+pub same_place : (a b : ℕ) → ◌≡◌ {A = Result ℕ EntryFault} (Ok a) (Ok b) → a ≡ b
 same_place a b same = cc
 
 module _ (program : Program) (t u : TypesView) (sigs others : List Sig) (envs more : TypedList) (main other : ℕ)

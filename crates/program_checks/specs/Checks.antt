@@ -13,6 +13,7 @@ use Rattle.entry_check.specs.Entry.{entry_of}
 use Rattle.ap_refs.specs.Prepared.{IsTypedProgram}
 use Rattle.ap_refs.specs.Placed.{Placed, PlacedList}
 use Rattle.ap_refs.specs.FirstFault as places
+use Rattle.gas_solver.specs.Accepting.{AcceptedView}
 use Rattle.gas_solver.specs.Faults.{IsGasFault}
 use Rattle.gas_solver.specs.Plans.{PlanView, IsPlan}
 use Rattle.gas_solver.specs.declared.fault.GasFault.TheVariants as gas_faults
@@ -36,6 +37,11 @@ Passes program = (checked : Checked) × Finds program checked
 -- the program passes the checks, and this is its gas plan
 abbrev pub HasPlan : Program → PlanView → Type 0
 HasPlan program plan = (checked : Checked) × Finds program checked × (plan ≡ checked.plan)
+
+-- the program with what was found of it
+abbrev pub accepted_by : Program → Checked → AcceptedView
+accepted_by program checked =
+    record { program = program; types = checked.types; sigs = checked.signatures; envs = checked.envs; plan = checked.plan; main = checked.main }
 
 -- The first refusal, in the order of compiling: types and functions; where these are not refused, libfuncs; where these have
 -- signatures, statements; where these are typed, main; where main is known, places; and where these are known, gas. Out of

@@ -8,13 +8,13 @@ ghost use Rattle.entry_check.specs.Entry.{entry_of};
 ghost use Rattle.ap_refs.specs.Prepared.{IsTypedProgram};
 ghost use Rattle.ap_refs.specs.Placed.{Placed, PlacedList};
 ghost use Rattle.gas_solver.specs.Plans.{IsPlan};
-ghost use Rattle.program_checks.specs.Checks.{Finds, Refused};
+ghost use Rattle.program_checks.specs.Checks.{Finds, Refused, accepted_by};
 ghost use Rattle.program_checks.specs.declared.refusal.Refusal.TheVariants as refusals;
 
 use crate::refusal::Refusal;
 use ap_refs::{Places, RefFault, places};
 use entry_check::check_entry;
-use gas_solver::{GasFault, GasPlan, solve};
+use gas_solver::{Accepted, GasFault, GasPlan, solve};
 use libfunc_registry::{Sig, SigFault, signatures};
 use linear_check::{Envs, LinearFault, annotate};
 use sierra_types::{List, Program};
@@ -36,6 +36,24 @@ pub struct Checked {
     pub places: Places,
     /// What each statement needs of gas, and a run to begin.
     pub plan: GasPlan,
+}
+
+impl Checked {
+    /// The program of which it was found, with it, but for the places.
+    #[tactic(auto, using(crate::proofs::Accepting::found_accepted))]
+    pub fn accept(self, program: Program) -> Accepted
+        requires { Finds program self }
+        ensures { result ≡ accepted_by program self }
+    {
+        Accepted::new(
+            program,
+            self.types,
+            self.signatures,
+            self.envs,
+            self.plan,
+            self.main,
+        )
+    }
 }
 
 /// What the checks find of a program, which has at most `2^20` statements, or its first refusal.

@@ -1,6 +1,7 @@
 //! Laws of the checks. A law is a function without code, whose contract says what holds.
 
 ghost use Rattle.std.specs.Prelude.{◌≡◌, ◌≤◌, ◌^◌, length};
+ghost use Rattle.gas_solver.specs.Accepting.{AcceptedView, IsAccepted};
 ghost use Rattle.gas_solver.specs.Plans.{PlanView};
 ghost use Rattle.sierra_types.specs.declared.program.Program.{Program};
 ghost use Rattle.program_checks.specs.declared.refusal.Refusal.{Refusal};
@@ -14,6 +15,11 @@ pub fn one_refusal()
 /// A program that passes the checks has one gas plan.
 pub fn one_gas_plan()
     ensures { (program : Program) (a b : PlanView) → HasPlan program a → HasPlan program b → a ≡ b }
+{}
+
+/// What is found of an accepted program is one.
+pub fn one_accepted()
+    ensures { (a b : AcceptedView) → IsAccepted a → IsAccepted b → a.program ≡ b.program → a ≡ b }
 {}
 
 /// It cannot be that a program of at most `2^20` statements neither passes the checks nor is refused, and no program does

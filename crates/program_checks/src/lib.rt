@@ -12,6 +12,6 @@ mod lines;
 mod refusal;
 
 pub use checking::{Checked, check};
-pub use laws::{one_gas_plan, one_refusal, passes_or_refused};
+pub use laws::{one_accepted, one_gas_plan, one_refusal, passes_or_refused};
 pub use lines::refusal_line;
 pub use refusal::Refusal;
