@@ -47,59 +47,32 @@ fn large_of(outcome: Result<Vec<u64>, Fault>) -> Option<usize> {
     }
 }
 
+/// Systems with their needs: no statement; branches, calls and targets before; and the greatest need that is small enough.
+const NEEDS: [(&[&[(u64, &[usize])]], &[u64]); 4] = [
+    (&[], &[]),
+    (
+        &[
+            &[(100, &[1]), (200, &[2])],
+            &[(100, &[4, 3]), (500, &[])],
+            &[(0, &[3])],
+            &[(300, &[])],
+            &[(100, &[3, 3])],
+        ],
+        &[1_200, 1_100, 300, 300, 700],
+    ),
+    (
+        &[&[(100, &[])], &[(7, &[0])], &[(8, &[1])]],
+        &[100, 107, 115],
+    ),
+    (
+        &[&[(0, &[1])], &[(1, &[2, 2])], &[(2_147_483_647, &[])]],
+        &[4_294_967_295, 4_294_967_295, 2_147_483_647],
+    ),
+];
+
 #[test]
 fn needs(rt: HostRuntime) -> Result<(), Fail> {
-    let table: [(&[&[(u64, &[usize])]], &[u64]); 13] = [
-        // no statement, one, and one without terms
-        (&[], &[]),
-        (&[&[(100, &[])]], &[100]),
-        (&[&[]], &[0]),
-        // a term that costs nothing
-        (&[&[(0, &[1])], &[(100, &[])]], &[100, 100]),
-        // the greater of two branches, the first or the second
-        (
-            &[&[(100, &[1]), (200, &[2])], &[(100, &[])], &[(50, &[])]],
-            &[250, 100, 50],
-        ),
-        (
-            &[&[(200, &[1]), (100, &[2])], &[(50, &[])], &[(100, &[])]],
-            &[250, 50, 100],
-        ),
-        // a branch that goes nowhere, as a success that is paid for already
-        (&[&[(300, &[]), (100, &[1])], &[(100, &[])]], &[300, 100]),
-        // a call, and a call of one statement twice
-        (
-            &[&[(100, &[2, 1])], &[(100, &[])], &[(200, &[])]],
-            &[400, 100, 200],
-        ),
-        (&[&[(1, &[1, 1])], &[(5, &[])]], &[11, 5]),
-        // two calls of one function
-        (
-            &[
-                &[(100, &[1])],
-                &[(100, &[4, 2])],
-                &[(100, &[4, 3])],
-                &[(100, &[])],
-                &[(0, &[5])],
-                &[(0, &[6])],
-                &[(100, &[7])],
-                &[(100, &[])],
-            ],
-            &[800, 700, 400, 100, 200, 200, 200, 100],
-        ),
-        // targets before
-        (
-            &[&[(100, &[])], &[(7, &[0])], &[(8, &[1])]],
-            &[100, 107, 115],
-        ),
-        // the greatest need that is small enough
-        (&[&[(4_294_967_295, &[])]], &[4_294_967_295]),
-        (
-            &[&[(0, &[1])], &[(1, &[2, 2])], &[(2_147_483_647, &[])]],
-            &[4_294_967_295, 4_294_967_295, 2_147_483_647],
-        ),
-    ];
-    for (rows, expected) in table {
+    for (rows, expected) in NEEDS {
         let system = system(rt.alloc(), rows)?;
         let needs = solved(rt.alloc(), &system).ok_or("not closed")??;
         assert_eq!(rt; needs.as_slice(), expected);
@@ -107,25 +80,16 @@ fn needs(rt: HostRuntime) -> Result<(), Fail> {
     Ok(())
 }
 
+/// Systems with the first statement of a need that is too large.
+const TOO_LARGE: [(&[&[(u64, &[usize])]], usize); 3] = [
+    (&[&[(4_294_967_296, &[])]], 0),
+    (&[&[(u64::MAX, &[1, 1])], &[(1, &[])]], 0),
+    (&[&[(1, &[])], &[(2, &[2, 2])], &[(2_147_483_647, &[])]], 1),
+];
+
 #[test]
 fn too_large(rt: HostRuntime) -> Result<(), Fail> {
-    let table: [(&[&[(u64, &[usize])]], usize); 6] = [
-        (&[&[(4_294_967_296, &[])]], 0),
-        (&[&[(u64::MAX, &[])]], 0),
-        (&[&[(u64::MAX, &[1, 1])], &[(1, &[])]], 0),
-        (&[&[(4_294_967_295, &[1])], &[(1, &[])]], 0),
-        (&[&[(1, &[])], &[(2, &[2, 2])], &[(2_147_483_647, &[])]], 1),
-        // the first of two
-        (
-            &[
-                &[(1, &[])],
-                &[(4_294_967_296, &[2])],
-                &[(8_589_934_592, &[])],
-            ],
-            1,
-        ),
-    ];
-    for (rows, expected) in table {
+    for (rows, expected) in TOO_LARGE {
         let system = system(rt.alloc(), rows)?;
         let outcome = solved(rt.alloc(), &system).ok_or("not closed")?;
         assert_eq!(rt; large_of(outcome).ok_or("not too large")?, expected);
@@ -133,53 +97,28 @@ fn too_large(rt: HostRuntime) -> Result<(), Fail> {
     Ok(())
 }
 
+/// Systems with the cycle that is named: of two that of the least statement, the nearer of two targets, and before a need that
+/// is too large.
+const CYCLES: [(&[&[(u64, &[usize])]], &[usize]); 3] = [
+    (
+        &[&[(1, &[1])], &[(1, &[2])], &[(1, &[1])], &[(1, &[3])]],
+        &[1, 2],
+    ),
+    (
+        &[
+            &[(1, &[1]), (1, &[2])],
+            &[(1, &[3])],
+            &[(1, &[0])],
+            &[(1, &[0])],
+        ],
+        &[0, 2],
+    ),
+    (&[&[(4_294_967_296, &[])], &[(1, &[1])]], &[1]),
+];
+
 #[test]
 fn cycles(rt: HostRuntime) -> Result<(), Fail> {
-    let table: [(&[&[(u64, &[usize])]], &[usize]); 10] = [
-        // a statement that leads to itself
-        (&[&[(100, &[0])]], &[0]),
-        // two cycles, the one of the least statement
-        (
-            &[&[(1, &[1])], &[(1, &[2])], &[(1, &[1])], &[(1, &[3])]],
-            &[1, 2],
-        ),
-        // by a call, of itself and of one that goes on here
-        (&[&[(100, &[1, 0])], &[(100, &[])]], &[0]),
-        (&[&[(100, &[0, 1])], &[(100, &[])]], &[0]),
-        (&[&[(100, &[1])], &[(100, &[2, 0])], &[(100, &[])]], &[0, 1]),
-        // the nearer of two targets
-        (
-            &[
-                &[(1, &[1]), (1, &[2])],
-                &[(1, &[3])],
-                &[(1, &[0])],
-                &[(1, &[0])],
-            ],
-            &[0, 2],
-        ),
-        // the least of two that are as near
-        (
-            &[&[(1, &[2]), (1, &[1])], &[(1, &[0])], &[(1, &[0])]],
-            &[0, 1],
-        ),
-        // back by a cycle of its own, along the shortest way
-        (
-            &[
-                &[(1, &[1])],
-                &[(1, &[1]), (1, &[2])],
-                &[(1, &[1]), (1, &[0])],
-            ],
-            &[0, 1, 2],
-        ),
-        // a target that leads nowhere
-        (
-            &[&[(1, &[1]), (1, &[2])], &[(1, &[])], &[(1, &[0])]],
-            &[0, 2],
-        ),
-        // before a need that is too large
-        (&[&[(4_294_967_296, &[])], &[(1, &[1])]], &[1]),
-    ];
-    for (rows, expected) in table {
+    for (rows, expected) in CYCLES {
         let system = system(rt.alloc(), rows)?;
         let outcome = solved(rt.alloc(), &system).ok_or("not closed")?;
         let cycle = cycle_of(outcome).ok_or("no cycle")?;
