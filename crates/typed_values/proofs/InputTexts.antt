@@ -20,15 +20,15 @@ use Rattle.typed_values.proofs.ReadBoth.{both, after, done_is, byte_sound, byte_
 use Rattle.typed_values.proofs.ValuesComplete.{value_complete}
 use Rattle.typed_values.proofs.ValuesSound.{value_sound}
 
-no_digit_here : (rest : List ℕ) → StartsWithNoDigit (10 ∷ rest)
+pub no_digit_here : (rest : List ℕ) → StartsWithNoDigit (10 ∷ rest)
 no_digit_here rest = λ is. let from : 48 ≤ 10 = is.0 in omega arith
 
 -- ---- the lines of values
 
-line_text : (v : Plain) (rest : List ℕ) → line_of v ++ rest ≡ value_text v ++ (10 ∷ rest)
+pub line_text : (v : Plain) (rest : List ℕ) → line_of v ++ rest ≡ value_text v ++ (10 ∷ rest)
 line_text v rest = append_assoc (value_text v) (10 ∷ []) rest
 
-lines_sound : (most : Ty → ℕ) (tys : List Ty) (bytes rest : List ℕ) (vs : List Plain) → lines_at most tys bytes ≡ answers (Ok vs) rest
+pub lines_sound : (most : Ty → ℕ) (tys : List Ty) (bytes rest : List ℕ) (vs : List Plain) → lines_at most tys bytes ≡ answers (Ok vs) rest
     → AllGiven most tys vs × (bytes ≡ flat_map line_of vs)
 unfolding lines_at line_at
 lines_sound most [] [] rest vs is = let vs_is : vs ≡ [] = cc in (vs_is, ap (flat_map line_of) (sym vs_is))
@@ -52,7 +52,7 @@ lines_sound most (ty ∷ tys) bytes rest vs is =
           whole ∙ sym (line_text w (flat_map line_of us)) ∙ ap (flat_map line_of) vs_is,
         )
 
-lines_complete : (most : Ty → ℕ) (tys : List Ty) (vs : List Plain) → AllGiven most tys vs → lines_at most tys (flat_map line_of vs) ≡ answers (Ok vs) []
+pub lines_complete : (most : Ty → ℕ) (tys : List Ty) (vs : List Plain) → AllGiven most tys vs → lines_at most tys (flat_map line_of vs) ≡ answers (Ok vs) []
 unfolding lines_at line_at
 lines_complete most [] vs all = ap (λ us. lines_at most [] (flat_map line_of us)) all ∙ ap (λ us. answers (Ok us) []) (sym all)
 lines_complete most (ty ∷ tys) vs all =
@@ -67,16 +67,16 @@ lines_complete most (ty ∷ tys) vs all =
     ∙ after (lines_at most tys) (λ us. done (all.0 ∷ us)) (flat_map line_of all.1) [] all.1 (lines_complete most tys all.1 all.4)
     ∙ ap (λ us. answers (Ok us) []) (sym all.2)
 
-as_many : (most : Ty → ℕ) (tys : List Ty) (vs : List Plain) → AllGiven most tys vs → length vs ≡ length tys
+pub as_many : (most : Ty → ℕ) (tys : List Ty) (vs : List Plain) → AllGiven most tys vs → length vs ≡ length tys
 as_many most [] vs all = ap length all
 as_many most (ty ∷ tys) vs all = ap length all.2 ∙ ap suc (as_many most tys all.1 all.4)
 
 -- ---- the first line
 
-abbrev first_text : ℕ → List ℕ → List ℕ
+abbrev pub first_text : ℕ → List ℕ → List ℕ
 first_text gas rest = 103 ∷ (97 ∷ (115 ∷ (32 ∷ (decimal_text gas ++ (10 ∷ rest)))))
 
-first_sound : (text rest : List ℕ) (gas : ℕ) → first_line_at text ≡ answers (Ok (Some gas)) rest → (gas < 2 ^ 32) × (text ≡ first_text gas rest)
+pub first_sound : (text rest : List ℕ) (gas : ℕ) → first_line_at text ≡ answers (Ok (Some gas)) rest → (gas < 2 ^ 32) × (text ≡ first_text gas rest)
 unfolding first_line_at head_at
 first_sound text rest gas is =
     let head = both head_at (λ _. gas_at >>= λ g. byte_at 10 >>= λ _. done g) text rest (Some gas) is in
@@ -94,7 +94,7 @@ first_sound text rest gas is =
     put_together : (a b c d e f : List ℕ) → text ≡ 103 ∷ a → a ≡ 97 ∷ b → b ≡ 115 ∷ c → c ≡ 32 ∷ d → d ≡ decimal_text gas ++ e → e ≡ 10 ∷ f → f ≡ rest → text ≡ first_text gas rest
     put_together a b c d e f one two three four five six seven = cc
 
-first_complete : (gas : ℕ) (rest : List ℕ) → gas < 2 ^ 32 → first_line_at (first_text gas rest) ≡ answers (Ok (Some gas)) rest
+pub first_complete : (gas : ℕ) (rest : List ℕ) → gas < 2 ^ 32 → first_line_at (first_text gas rest) ≡ answers (Ok (Some gas)) rest
 unfolding first_line_at head_at
 first_complete gas rest within =
     after head_at (λ _. gas_at >>= λ g. byte_at 10 >>= λ _. done g) (first_text gas rest) (decimal_text gas ++ (10 ∷ rest)) tt
@@ -110,7 +110,7 @@ first_complete gas rest within =
 
 -- ---- the whole
 
-text_of : (i : InputView) → input_text i ≡ first_text i.gas (flat_map line_of i.args)
+pub text_of : (i : InputView) → input_text i ≡ first_text i.gas (flat_map line_of i.args)
 text_of i = ap (λ t. 103 ∷ (97 ∷ (115 ∷ (32 ∷ (decimal_text i.gas ++ (10 ∷ t)))))) (append-nil (flat_map line_of i.args))
 
 pub input_sound : (tys : List Ty) (text : List ℕ) (i : InputView) → input_at tys text ≡ Ok i → FitsMain tys i × (text ≡ input_text i)

@@ -28,23 +28,23 @@ IsComplete P reader = (v : Plain) (rest : List ℕ) → P v → StartsWithNoDigi
 abbrev pub NeverCloses : ValueReader Plain → Type 0
 NeverCloses reader = (more rest : List ℕ) (v : Plain) → reader (93 ∷ more) ≡ answers (Ok v) rest → ⊥
 
-no_digit_below : (b : ℕ) (rest : List ℕ) → b < 48 → StartsWithNoDigit (b ∷ rest)
+pub no_digit_below : (b : ℕ) (rest : List ℕ) → b < 48 → StartsWithNoDigit (b ∷ rest)
 no_digit_below b rest small = λ is. let from : 48 ≤ b = is.0 in omega arith
 
-no_digit_above : (b : ℕ) (rest : List ℕ) → 57 < b → StartsWithNoDigit (b ∷ rest)
+pub no_digit_above : (b : ℕ) (rest : List ℕ) → 57 < b → StartsWithNoDigit (b ∷ rest)
 no_digit_above b rest great = λ is. let to : b ≤ 57 = is.1 in omega arith
 
-goes_on_complete : (g : Bool) (rest : List ℕ) → goes_on_at (mark g ∷ rest) ≡ answers (Ok g) rest
+pub goes_on_complete : (g : Bool) (rest : List ℕ) → goes_on_at (mark g ∷ rest) ≡ answers (Ok g) rest
 unfolding goes_on_at
 goes_on_complete true rest = then_byte 44 (done true) rest
 goes_on_complete false rest = then_byte 93 (done false) rest
 
-space_complete : (is_first : Bool) (rest : List ℕ) → space_at is_first (spaced is_first ++ rest) ≡ answers (Ok tt) rest
+pub space_complete : (is_first : Bool) (rest : List ℕ) → space_at is_first (spaced is_first ++ rest) ≡ answers (Ok tt) rest
 unfolding space_at
 space_complete true rest = refl
 space_complete false rest = byte_complete 32 rest
 
-mark_follow : (g : Bool) (rest : List ℕ) → StartsWithNoDigit (mark g ∷ rest)
+pub mark_follow : (g : Bool) (rest : List ℕ) → StartsWithNoDigit (mark g ∷ rest)
 mark_follow true rest = no_digit_below 44 rest (omega arith)
 mark_follow false rest = no_digit_above 93 rest (omega arith)
 
@@ -141,10 +141,10 @@ member_complete item P complete false v rest given free =
 
 -- ---- by type
 
-starts : (n : ℕ) (rest : List ℕ) → StartsWithNoDigit rest → StartsWithNumber (decimal_text n ++ rest) n rest
+pub starts : (n : ℕ) (rest : List ℕ) → StartsWithNoDigit rest → StartsWithNumber (decimal_text n ++ rest) n rest
 starts n rest free = record { text_is = refl; longest = inr free }
 
-left_nil : (is_first : Bool) (rest : List ℕ) → left_text is_first [] ++ rest ≡ rest
+pub left_nil : (is_first : Bool) (rest : List ℕ) → left_text is_first [] ++ rest ≡ rest
 left_nil true rest = refl
 left_nil false rest = refl
 
@@ -215,7 +215,7 @@ module _ (most : Ty → ℕ) where
     value_complete (squashed_dict k) v rest given free = absurd given
     value_complete (uninitialized ty) v rest given free = absurd given
 
-    members_complete : (is_first : Bool) (tys : Tys) (vs : List Plain) (rest : List ℕ) → AreGiven most tys vs → StartsWithNoDigit rest
+    pub members_complete : (is_first : Bool) (tys : Tys) (vs : List Plain) (rest : List ℕ) → AreGiven most tys vs → StartsWithNoDigit rest
         → members_at most is_first tys (left_text is_first vs ++ rest) ≡ answers (Ok (vals_of vs)) rest
     members_complete is_first no_types vs rest given free =
         ap (λ us. members_at most is_first no_types (left_text is_first us ++ rest)) given
@@ -231,7 +231,7 @@ module _ (most : Ty → ℕ) where
         (members_complete false tys given.1 rest given.4 free)
         ∙ ap (λ us. answers (Ok (vals_of us)) rest) (sym given.2)
 
-    variant_complete : (tys : Tys) (index : ℕ) → IsComplete (IsGivenVariant most tys index) (variant_at most tys index)
+    pub variant_complete : (tys : Tys) (index : ℕ) → IsComplete (IsGivenVariant most tys index) (variant_at most tys index)
     variant_complete no_types index v rest given free = absurd given
     variant_complete (types ty tys) zero v rest given free = value_complete ty v rest given free
     variant_complete (types ty tys) (suc index) v rest given free = variant_complete tys index v rest given free

@@ -24,7 +24,7 @@ use Rattle.typed_values.proofs.TextForms.{spaced, mark, struct_text, array_text,
 abbrev pub IsSound : (Plain → Type 0) → ValueReader Plain → Type 0
 IsSound P reader = (bytes rest : List ℕ) (v : Plain) → reader bytes ≡ answers (Ok v) rest → P v × (bytes ≡ value_text v ++ rest)
 
-goes_on_sound : (bytes rest : List ℕ) (g : Bool) → goes_on_at bytes ≡ answers (Ok g) rest → bytes ≡ mark g ∷ rest
+pub goes_on_sound : (bytes rest : List ℕ) (g : Bool) → goes_on_at bytes ≡ answers (Ok g) rest → bytes ≡ mark g ∷ rest
 unfolding goes_on_at
 goes_on_sound bytes rest g is = go (begins 93 bytes) is
   where
@@ -37,7 +37,7 @@ goes_on_sound bytes rest g is = go (begins 93 bytes) is
     go true is = let found = byte_then 93 (done false) bytes rest g is in ended false 93 found.0 refl found.1 found.2
     go false is = let found = byte_then 44 (done true) bytes rest g is in ended true 44 found.0 refl found.1 found.2
 
-space_sound : (is_first : Bool) (bytes rest : List ℕ) (unit : Unit {0}) → space_at is_first bytes ≡ answers (Ok unit) rest → bytes ≡ spaced is_first ++ rest
+pub space_sound : (is_first : Bool) (bytes rest : List ℕ) (unit : Unit {0}) → space_at is_first bytes ≡ answers (Ok unit) rest → bytes ≡ spaced is_first ++ rest
 unfolding space_at
 space_sound true bytes rest unit is = (done_is tt unit bytes rest is).1
 space_sound false bytes rest unit is = byte_sound 32 bytes rest unit is
@@ -46,7 +46,7 @@ same_parts : (v : Plain) (g : Bool) (p : Plain × Bool) → ◌≡◌ {A = Plain
 same_parts v g p is = (ap (λ (q : Plain × Bool). q.0) is, ap (λ (q : Plain × Bool). q.1) is)
 
 module _ (item : ValueReader Plain) (P : Plain → Type 0) (sound : IsSound P item) where
-  element_sound : (is_first : Bool) (bytes rest : List ℕ) (p : Plain × Bool) → element_at item is_first bytes ≡ answers (Ok p) rest
+  pub element_sound : (is_first : Bool) (bytes rest : List ℕ) (p : Plain × Bool) → element_at item is_first bytes ≡ answers (Ok p) rest
       → P p.0 × (bytes ≡ spaced is_first ++ (value_text p.0 ++ (mark p.1 ∷ rest)))
   unfolding element_at
   element_sound is_first bytes rest p is =

@@ -1,4 +1,5 @@
 pub mod Behind
+pub mod Faults
 pub mod Inputs
 pub mod Kinds
 pub mod Listing
