@@ -3,6 +3,7 @@ pub mod Amounts
 pub mod Beginning
 pub mod Callees
 pub mod Calling
+pub mod Doing
 pub mod Ending
 pub mod Evaluated
 pub mod Gas
@@ -17,10 +18,16 @@ pub mod MainBuiltins
 pub mod MainLaws
 pub mod Lengths
 pub mod LongParts
+pub mod MappedBack
 pub mod MappedValues
 pub mod MeaningLaws
 pub mod Moving
+pub mod Places
 pub mod ProgramFacts
+pub mod Resolving
 pub mod Spending
+pub mod Starting
+pub mod Stepping
+pub mod Turning
 pub mod Typing
 pub mod Weighed

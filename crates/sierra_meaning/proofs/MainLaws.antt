@@ -1,6 +1,6 @@
 -- Main ends, once, within the bound.
 use Rattle.std.proofs.Common.{◌≡◌, ℕ, ◌+◌, ◌*◌, ◌-◌, ◌<◌, ◌≤◌, List, [], length, Option, Some, None, Ok, refl, sym, ap, subst, ◌∙◌, arith}
-use Rattle.std.specs.List.{slice_get, zip, position}
+use Rattle.std.specs.List.{slice_get, zip, position, sum_by}
 use Rattle.std.specs.Option.{option_and_then, option_map_or}
 use Rattle.std.proofs.lemmas.List.Quantifiers.{position-Some}
 use Rattle.std.proofs.lemmas.Option.{same_Some}
@@ -20,7 +20,7 @@ use Rattle.sierra_meaning.specs.Acts.{Acts}
 use Rattle.sierra_meaning.specs.Acts as acts
 use Rattle.sierra_meaning.specs.Facts.{funds, measure, IsGood}
 use Rattle.sierra_meaning.specs.Main.{MainEnds, IsBeginning, AreMainResults, statement_bound}
-use Rattle.sierra_meaning.specs.Mean.{Mean}
+use Rattle.sierra_meaning.specs.Mean.{Mean, charged}
 use Rattle.sierra_meaning.specs.Measured.{gas_inside, length_of, running_of}
 use Rattle.sierra_meaning.specs.Weighing.{PlanPays}
 use Rattle.sierra_meaning.proofs.Acting.{acts_once}
@@ -107,13 +107,22 @@ module _ (a : AcceptedView) (ok : IsAccepted a) (pays_for : PlanPays a) where
       let short = good.short in
       record { typed = all.typed; left = omega arith; short = omega arith }
 
+  pub charges_paid : (gas n : ℕ) (vs results : List Plain) → IsBeginning a gas vs → (run : MainEnds a n vs results)
+      → charged n (acts.begins_at a a.main) run.held results run.ends + sum_by gas_inside results + 100 ≤ gas
+  charges_paid gas n vs results can run =
+      let good = good_main gas vs run.main run.held can run.is_main run.begins in
+      let all = spent (running_of a) (facts a ok pays_for (all_weigh a.types ok.types.kept)) a.main n (acts.begins_at a a.main) run.held results run.ends good in
+      let within = funds_within gas vs run.main run.held can run.begins in
+      let paid = all.paid in
+      omega arith
+
   pub main_ends : (gas : ℕ) (vs : List Plain) → IsBeginning a gas vs → (n : ℕ) × (results : List Plain) × MainEnds a n vs results
   main_ends gas vs can =
       let main = main_function a ok in
       let begun = begins a ok a.main main.0 vs main.1 can.typed in
       let good = good_main gas vs main.0 begun.args can main.1 begun.given in
       let run = all_end (running_of a) (facts a ok pays_for (all_weigh a.types ok.types.kept)) (moves a ok) (measure (running_of a) (acts.begins_at a a.main) begun.args + 1) a.main (acts.begins_at a a.main) begun.args good (omega arith) in
-      (run.0, run.1, record { main = main.0; is_main = main.1; held = begun.args; begins = begun.given; ends = run.2 })
+      (run.0, run.1, record { typed = can.typed; main = main.0; is_main = main.1; held = begun.args; begins = begun.given; ends = run.2 })
 
 pub main_once : (a : AcceptedView) (n m : ℕ) (vs one other : List Plain) → MainEnds a n vs one → MainEnds a m vs other → (n ≡ m) × (one ≡ other)
 main_once a n m vs one other run again =

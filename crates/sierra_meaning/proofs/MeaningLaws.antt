@@ -33,7 +33,7 @@ left_within counter (v ∷ vs) = by v (left_within counter vs)
     by _ rest = omega arith
 
 module _ (a : AcceptedView) (ok : IsAccepted a) (pays_for : PlanPays a) (i : InputView) (fits : Fits a i) where
-  can_begin : a.plan.entry ≤ i.gas → IsBeginning a i.gas (beginning (counter a i) (params_of a.types a.main) i.args)
+  pub can_begin : a.plan.entry ≤ i.gas → IsBeginning a i.gas (beginning (counter a i) (params_of a.types a.main) i.args)
   can_begin enough =
       let small = fits.gas in
       let main = main_function a ok in

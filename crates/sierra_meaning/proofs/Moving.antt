@@ -33,7 +33,7 @@ use Rattle.sierra_meaning.proofs.Callees.{is_call}
 use Rattle.sierra_meaning.proofs.Going.{taken_short, asked}
 use Rattle.sierra_meaning.proofs.Calling.{begins}
 
-one_beside : {A B C : Type 0} (Q : A → B → Type 0) (R : B → C → Type 0) (xs : List A) (ys : List B) (z : C) → AllZip Q xs ys → AllZip R ys (z ∷ []) → (x : A) × (xs ≡ x ∷ [])
+pub one_beside : {A B C : Type 0} (Q : A → B → Type 0) (R : B → C → Type 0) (xs : List A) (ys : List B) (z : C) → AllZip Q xs ys → AllZip R ys (z ∷ []) → (x : A) × (xs ≡ x ∷ [])
 one_beside Q R xs [] z all more = absurd more
 one_beside Q R [] (y ∷ ys) z all more = absurd all
 one_beside Q R (x ∷ []) (y ∷ []) z all more = (x, refl)

@@ -5,4 +5,5 @@ pub mod Main
 pub mod Mean
 pub mod Measured
 pub mod Outcome
+pub mod Turns
 pub mod Weighing

@@ -15,8 +15,9 @@ use Rattle.sierra_meaning.specs.Facts.{greatest_of}
 use Rattle.sierra_meaning.specs.Mean.{Mean}
 use Rattle.sierra_meaning.specs.Measured.{gas_inside, length_of}
 
--- main begins with these values and ends with these results, after n statements
+-- main begins with these values, which are of its parameters' types, and ends with these results, after n statements
 pub record MainEnds (a : AcceptedView) (n : ℕ) (vs results : List Plain) : Type 0 where
+  pub typed : ArePlain (params_of a.types a.main) vs
   pub main : Function
   pub is_main : slice_get a.program.functions a.main ≡ Some main
   pub held : Held Plain
@@ -36,7 +37,7 @@ pub record IsBeginning (a : AcceptedView) (gas : ℕ) (vs : List Plain) : Type 0
 abbrev pub statement_bound : AcceptedView → ℕ → ℕ
 statement_bound a gas = (length a.program.statements + 1) * (gas + 1)
 
--- What is known of the results of a run of so much gas: they are of the types of main's results; the gas in them, with what the
+-- What is known of the results of a run of so much gas: they are of the types of main's results; the gas in them, with the 100 that the
 -- call of main is charged, is no more than that of the run; and an array or a map has fewer than 2 ^ 27 elements.
 pub record AreMainResults (a : AcceptedView) (gas : ℕ) (results : List Plain) : Type 0 where
   pub typed : ArePlain (results_of a.types a.main) results
