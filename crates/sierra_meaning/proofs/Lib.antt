@@ -12,6 +12,7 @@ pub mod GasParts
 pub mod Given
 pub mod Going
 pub mod HeldValues
+pub mod Idling
 pub mod Invoking
 pub mod Known
 pub mod MainBuiltins

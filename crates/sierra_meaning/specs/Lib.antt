@@ -1,6 +1,7 @@
 pub mod Acts
 pub mod Evaluating
 pub mod Facts
+pub mod Idle
 pub mod Main
 pub mod Mean
 pub mod Measured

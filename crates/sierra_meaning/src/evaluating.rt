@@ -103,10 +103,12 @@ fn main_results(
     requires begins { (gas : ℕ) × IsBeginning accepted.now gas (map meant values.items) }
     ensures { IfOk result (λ results. (n : ℕ) × MainEnds accepted.now n (map meant values.items) (map meant results.items)) }
 {
+    let (positions, idle) = resolve(alloc, accepted)?;
     let evaluator = Evaluator {
         alloc,
         accepted,
-        positions: resolve(alloc, accepted)?,
+        positions,
+        idle,
     };
     let mut values = values;
     let env = begin(alloc, main.params.items(), &mut values)?;

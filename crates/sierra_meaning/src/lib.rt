@@ -6,8 +6,9 @@
 //! checks a run stands on them.
 //!
 //! `eval` is the evaluator: an accepted program and an input that fits its main come in, and the outcome that they mean goes
-//! out. `resolved` finds each statement's signature once, `variables` takes arguments out of what is held and adds results, and
-//! `turns` does one statement after another, with the functions that wait in a list; `specs/Turns` says what a turn keeps.
+//! out. `resolved` finds once each statement's signature, and which statements leave all values as they are (`specs/Idle`),
+//! `variables` takes arguments out of what is held and adds results, and `turns` does one statement after another, with the
+//! functions that wait in a list; `specs/Turns` says what a turn keeps.
 #![tactic(auto)]
 
 mod evaluating;

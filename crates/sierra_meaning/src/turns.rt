@@ -17,6 +17,7 @@ ghost use Rattle.libfunc_meaning.specs.Placed.{ArePlain};
 ghost use Rattle.libfunc_meaning.specs.Proper.{IsNoCall};
 ghost use Rattle.sierra_meaning.specs.Acts.{Calls, amount_at};
 ghost use Rattle.sierra_meaning.specs.Evaluating.{mapped_held};
+ghost use Rattle.sierra_meaning.specs.Idle.{AreIdle};
 ghost use Rattle.sierra_meaning.specs.Turns.{IsReady, CanGo, Stands, Turns, Ends, place_of, Went, Called};
 
 use crate::variables::{add_values, begin, take_values};
@@ -62,12 +63,15 @@ pub(crate) struct Evaluator<'a> {
     pub accepted: &'a Accepted,
     /// Of each statement that invokes a libfunc the position of its signature.
     pub positions: Vec<usize>,
+    /// Where each statement leads that leaves all values as they are.
+    pub idle: Vec<Option<Target>>,
 }
 
 impl<'a> Evaluator<'a> {
     /// Main's results from where it stands, with no function that waits.
     pub fn results(&self, at: usize, env: Held<Value>) -> Result<Vec<Value>, AllocError>
         requires ready { IsReady self.now.accepted.now self.now.positions.items }
+        requires idle { AreIdle self.now.accepted.now self.now.idle.items }
         requires stands { Stands self.now.accepted.now (record { at = at; env = env; callers = [] }) }
         ensures { IfOk result (λ results. Ends self.now.accepted.now (record { at = at; env = env; callers = [] }) (map meant results.items)) }
     {
@@ -87,11 +91,16 @@ impl<'a> Evaluator<'a> {
     /// Does one statement, and answers main's results where main ends.
     fn turn(&self, run: &mut Run<'a>) -> Result<Option<Vec<Value>>, AllocError>
         requires ready { IsReady self.now.accepted.now self.now.positions.items }
+        requires idle { AreIdle self.now.accepted.now self.now.idle.items }
         requires stands { Stands self.now.accepted.now (place_of run.old) }
         requires empty { run.old.values.items ≡ [] }
         ensures turns { IfOk result (λ ended. MatchOption ended (Turns self.now.accepted.now (place_of run.old) (place_of run.new)) (λ results. Ends self.now.accepted.now (place_of run.old) (map meant results.items))) }
         ensures emptied { OnOk result (run.new.values.items ≡ []) }
     {
+        if let Some(target) = self.idle[run.at] {
+            self.pass(run, target);
+            return Ok(None);
+        }
         match &self.accepted.program().statements.items()[run.at] {
             Statement::Invoke { args, branches, .. } => {
                 self.invoke(run, args.items(), branches.items())?;
@@ -99,6 +108,20 @@ impl<'a> Evaluator<'a> {
             }
             Statement::Return { args } => self.end(run, args.items()),
         }
+    }
+
+    /// Goes on where a statement leads that leaves all values as they are.
+    fn pass(&self, run: &mut Run<'a>, target: Target)
+        requires ready { IsReady self.now.accepted.now self.now.positions.items }
+        requires idle { AreIdle self.now.accepted.now self.now.idle.items }
+        requires stands { Stands self.now.accepted.now (place_of run.old) }
+        requires few { run.old.at + 1 < 2 ^ 64 }
+        requires here { slice_get self.now.idle.items run.old.at ≡ Some (Some target) }
+        ensures turns { Turns self.now.accepted.now (place_of run.old) (place_of run.new) }
+        ensures kept { run.new.values.items ≡ run.old.values.items }
+    {
+        let _rising = run.env.items();
+        run.at = target_of(run.at, target);
     }
 
     /// Ends a function: its caller goes on with the results, or they are main's.
