@@ -13,7 +13,7 @@ use held_list::Held;
 use std::alloc::{AllocError, Global};
 
 /// Takes a variable out, and gives its cells.
-fn take_out(alloc: Global, variable: u64, held: &mut Held<Cells>) -> Cells
+pub(crate) fn take_out(alloc: Global, variable: u64, held: &mut Held<Cells>) -> Cells
     ensures { arguments.taken_out variable held.old ≡ (result, held.new) }
 {
     match held.take(variable) {

@@ -1,9 +1,9 @@
 //! What a branch gives its target: ap moves, what is held is named anew, and the results are added.
 
-ghost use Rattle.std.specs.Prelude.{◌≡◌, ◌<◌, ◌≤◌, ◌+◌, ◌^◌, ◌++◌, map, length, take, drop, IfOk, IfSome, OnOk, pos, ◌-ℤ◌};
+ghost use Rattle.std.specs.Prelude.{◌≡◌, ◌<◌, ◌≤◌, ◌+◌, ◌^◌, ◌++◌, ◌∷◌, [], map, length, take, drop, IfOk, IfSome, OnOk, pos, ◌-ℤ◌};
 ghost use Rattle.std.specs.List.{All};
 ghost use Rattle.type_table.specs.View.{trees_of};
-ghost use Rattle.libfunc_registry.specs.Wanted.{IsBelow};
+ghost use Rattle.libfunc_registry.specs.Wanted.{IsBelow, IsPlaced};
 ghost use Rattle.libfunc_registry.specs.Fam.{fam_of};
 ghost use Rattle.casm_word.specs.Expressions as expressions;
 ghost use Rattle.cost_table.specs.Fits.{IsSignature, IsCloseExpr};
@@ -24,6 +24,7 @@ use held_list::{AddFault, Held};
 use libfunc_registry::{Libfunc, Sig};
 use sierra_types::Name;
 use std::alloc::{AllocError, Global};
+use std::slice;
 use type_table::{TypeId, Types};
 
 /// More cells than any memory has.
@@ -55,12 +56,17 @@ pub(crate) fn count_cells(types: &Types, list: &[TypeId]) -> Option<u64>
 /// How far a branch moves ap, and none where nobody knows.
 pub(crate) fn change(types: &Types, sig: &Sig, amount: u64, branch: usize) -> Option<u64>
     requires signature { IsSignature types.now sig.now }
+    requires placed { IsPlaced types.now sig.now.libfunc }
     requires branch { branch < length sig.now.branches }
     ensures { result ≡ moving.change types.now sig.now.libfunc amount branch }
 {
     match sig.libfunc {
         Libfunc::FinalizeLocals => Some(amount),
         Libfunc::DisableApTracking => None,
+        Libfunc::StoreTemp(t) => Some(u64::from(size(types, t))),
+        Libfunc::BranchAlign => Some(0),
+        Libfunc::Dup(_) => Some(0),
+        Libfunc::Drop(_) => Some(0),
         _ => match cost(types, sig, branch).ap {
             ApChange::Known(n) => Some(u64::from(n)),
             ApChange::Unknown => None,
@@ -171,6 +177,26 @@ pub(crate) fn add_all(
         (variables, kinds, cells) = (later, others, rest);
     }
     Ok(())
+}
+
+/// Adds the variables of these types with a single cell.
+pub(crate) fn add_cell(
+    alloc: Global,
+    types: &Types,
+    variables: &[u64],
+    kinds: &[TypeId],
+    cell: CellExpr,
+    held: &mut Held<Cells>,
+) -> Result<(), AllocError>
+    requires { All (IsBelow types.now) kinds.now }
+    ensures { OnOk result (held.new ≡ moving.added types.now variables.now kinds.now (cell ∷ []) held.old) }
+{
+    if let ([variable], [kind]) = (variables, kinds) {
+        if size(types, *kind) == 1 {
+            return add_one(*variable, Cells::one(cell), held);
+        }
+    }
+    add_all(alloc, types, variables, kinds, slice::from_ref(&cell), held)
 }
 
 /// So many cells, and those behind them.

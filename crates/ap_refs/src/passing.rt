@@ -1,8 +1,13 @@
 //! What a libfunc's statement that passes gives its branches.
 
-ghost use Rattle.std.specs.Prelude.{◌≡◌, ◌<◌, ◌+◌, ◌^◌, map, length, Ok, Result, ℕ, IfOk};
+ghost use Rattle.std.specs.Prelude.{◌≡◌, ◌<◌, ◌+◌, ◌^◌, ◌∷◌, [], map, length, Ok, Result, ℕ, IfOk, IfSome, OnOk};
 ghost use Rattle.std.specs.List.{All};
-ghost use Rattle.libfunc_registry.specs.Wanted.{IsBelow};
+ghost use Rattle.libfunc_registry.specs.Wanted.{IsBelow, IsPlaced};
+ghost use Rattle.libfunc_registry.specs.Fam.{fam_of};
+ghost use Rattle.cell_terms.specs.Resolving.{argument};
+ghost use Rattle.cost_table.specs.Fits.{IsSignature, IsCloseExpr};
+ghost use Rattle.cost_table.specs.Results as rows;
+ghost use Rattle.ap_refs.specs.Bounds.{most_moved};
 ghost use Rattle.linear_check.specs.Statements as statements;
 ghost use Rattle.ap_refs.specs.Flow as flow;
 ghost use Rattle.ap_refs.specs.Moves as moving;
@@ -12,10 +17,10 @@ use crate::arguments::keep;
 use crate::cells::Cells;
 use crate::moves;
 use crate::place::{Locals, Place};
-use casm_word::CellExpr;
+use casm_word::{At, CellExpr, Reg};
 use cost_table::results;
 use held_list::Held;
-use libfunc_registry::Sig;
+use libfunc_registry::{Libfunc, Sig};
 use sierra_types::{Branch, Target};
 use std::alloc::{AllocError, Global};
 use type_table::{TypeId, Types};
@@ -50,7 +55,84 @@ fn target_of(statement: usize, target: Target) -> u64
     }
 }
 
+/// The cell of the one result of a branch that has a single cell, where it is known without the row of the libfunc: the cell
+/// below ap that is stored, or that of the argument.
+fn short_result(
+    types: &Types,
+    libfunc: Libfunc,
+    args: &[CellExpr],
+    branch: usize,
+) -> Option<CellExpr>
+    requires { IsPlaced types.now libfunc }
+    ensures { IfSome result (λ cell. (amount : ℕ) → rows.results args.now amount (fam_of types.now libfunc) branch ≡ cell ∷ []) }
+{
+    match libfunc {
+        Libfunc::StoreTemp(t) if moves::size(types, t) == 1 => Some(CellExpr::Cell(At {
+            base: Reg::Ap,
+            off: -1,
+        })),
+        Libfunc::UnwrapNonZero(_) => Some(first_of(args)),
+        Libfunc::IsZero(_) if branch != 0 => Some(first_of(args)),
+        _ => None,
+    }
+}
+
+/// The cell of each of the two results of a libfunc that gives its argument of a single cell twice.
+fn double_result(types: &Types, libfunc: Libfunc, args: &[CellExpr]) -> Option<CellExpr>
+    requires { IsPlaced types.now libfunc }
+    ensures { IfSome result (λ cell. (amount branch : ℕ) → rows.results args.now amount (fam_of types.now libfunc) branch ≡ cell ∷ cell ∷ []) }
+{
+    match libfunc {
+        Libfunc::Dup(t) if moves::size(types, t) == 1 => Some(first_of(args)),
+        _ => None,
+    }
+}
+
+/// The first expression.
+fn first_of(args: &[CellExpr]) -> CellExpr
+    ensures { result ≡ argument args.now 0 }
+{
+    args.first().copied().unwrap_or(CellExpr::Imm(0))
+}
+
 impl Passing<'_> {
+    /// Adds the results of a branch, of these types, to these variables.
+    fn add_results(
+        &self,
+        branch: usize,
+        variables: &[u64],
+        kinds: &[TypeId],
+        held: &mut Held<Cells>,
+    ) -> Result<(), AllocError>
+        requires signature { IsSignature self.now.types.now self.now.sig.now }
+        requires placed { IsPlaced self.now.types.now self.now.sig.now.libfunc }
+        requires close { All IsCloseExpr self.now.args.now }
+        requires few { self.now.amount < most_moved }
+        requires branch { branch < length self.now.sig.now.branches }
+        requires below { All (IsBelow self.now.types.now) kinds.now }
+        ensures { OnOk result (held.new ≡ moving.added self.now.types.now variables.now kinds.now (rows.results self.now.args.now self.now.amount (fam_of self.now.types.now self.now.sig.now.libfunc) branch) held.old) }
+    {
+        if let [] = variables {
+            return Ok(());
+        }
+        if let Some(cell) = short_result(self.types, self.sig.libfunc, self.args, branch) {
+            return moves::add_cell(self.alloc, self.types, variables, kinds, cell, held);
+        }
+        if let Some(cell) = double_result(self.types, self.sig.libfunc, self.args) {
+            let own = [cell, cell];
+            return moves::add_all(self.alloc, self.types, variables, kinds, &own, held);
+        }
+        let own = results(
+            self.alloc,
+            self.types,
+            self.sig,
+            self.args,
+            self.amount,
+            branch,
+        )?;
+        moves::add_all(self.alloc, self.types, variables, kinds, &own, held)
+    }
+
     /// What is known behind a branch that gives results of these types to these variables, where `rest` is held without the
     /// arguments.
     fn give(
@@ -60,22 +142,15 @@ impl Passing<'_> {
         kinds: &[TypeId],
         rest: Held<Cells>,
     ) -> Result<Place, AllocError>
+        requires placed { IsPlaced self.now.types.now self.now.sig.now.libfunc }
         requires step { CanStep self.now.types.now self.now.sig.now self.now.place.now.ap self.now.args.now rest self.now.amount }
         requires branch { branch < length self.now.sig.now.branches }
         requires below { All (IsBelow self.now.types.now) kinds.now }
         ensures { IfOk result (λ place. place ≡ moving.behind self.now.types.now self.now.sig.now.libfunc self.now.place.now self.now.args.now rest self.now.locals self.now.amount branch variables.now kinds.now) }
     {
-        let own = results(
-            self.alloc,
-            self.types,
-            self.sig,
-            self.args,
-            self.amount,
-            branch,
-        )?;
         let moved = moves::change(self.types, self.sig, self.amount, branch);
         let mut held = moves::lower_all(self.alloc, moved.unwrap_or(0), rest)?;
-        moves::add_all(self.alloc, self.types, variables, kinds, &own, &mut held)?;
+        self.add_results(branch, variables, kinds, &mut held)?;
         Ok(Place {
             cells: held,
             ap: moves::further(self.place.ap, moved),
@@ -92,6 +167,7 @@ impl Passing<'_> {
         kinds: &[TypeId],
         rest: Held<Cells>,
     ) -> Result<(usize, Place), AllocError>
+        requires placed { IsPlaced self.now.types.now self.now.sig.now.libfunc }
         requires step { CanStep self.now.types.now self.now.sig.now self.now.place.now.ap self.now.args.now rest self.now.amount }
         requires branch { k < length self.now.sig.now.branches }
         requires below { All (IsBelow self.now.types.now) kinds.now }
@@ -110,6 +186,7 @@ impl Passing<'_> {
         branches: &[Branch],
         rest: Held<Cells>,
     ) -> Result<Vec<(usize, Place)>, AllocError>
+        requires placed { IsPlaced self.now.types.now self.now.sig.now.libfunc }
         requires step { CanStep self.now.types.now self.now.sig.now self.now.place.now.ap self.now.args.now rest self.now.amount }
         requires counted { length branches.now ≡ length self.now.sig.now.branches }
         requires here { statement + 1 < 2 ^ 64 }

@@ -1,6 +1,6 @@
 //! The rules of places, as the walk asks for them.
 
-ghost use Rattle.std.specs.Prelude.{◌≡◌, ◌<◌, ◌≤◌, ◌+◌, ◌^◌, ℕ, List, [], map, length, Some, Ok, IfOk, Result};
+ghost use Rattle.std.specs.Prelude.{◌≡◌, ◌<◌, ◌≤◌, ◌+◌, ◌^◌, ℕ, List, [], ◌∷◌, map, length, Some, Ok, IfOk, Result};
 ghost use Rattle.std.specs.List.{slice_get, All};
 ghost use Rattle.std.specs.Option.{option_copied};
 ghost use Rattle.libfunc_registry.specs.Wanted.{IsBelow};
@@ -26,6 +26,7 @@ use libfunc_registry::{Libfunc, Sig};
 use sierra_types::{Branch, Function, Name, Program, Statement};
 use statement_walk::{Branches, WalkRules};
 use std::alloc::{AllocError, Global};
+use std::slice;
 use type_table::{Positions, TypeId, Types};
 
 /// A typed program with its types and signatures, prepared for the walk.
@@ -145,10 +146,16 @@ fn invoke_fault(
     requires count { count ≡ length (arguments_of.joined args.now) }
     ensures { (types : _) → result ≡ flow.invoke_fault statement types libfunc args.now rest.now step }
 {
-    far_fault(statement, args)
-        .or(form_fault(statement, libfunc, count, args))
-        .or(locals::local_fault(statement, step))
-        .or(dangling_fault(statement, libfunc, rest))
+    if let Some(fault) = far_fault(statement, args) {
+        return Some(fault);
+    }
+    if let Some(fault) = form_fault(statement, libfunc, count, args) {
+        return Some(fault);
+    }
+    if let Some(fault) = locals::local_fault(statement, step) {
+        return Some(fault);
+    }
+    dangling_fault(statement, libfunc, rest)
 }
 
 /// The first fault of the end of a function whose results have so many cells.
@@ -232,8 +239,41 @@ impl Placing<'_> {
             return Ok(self.stop(None));
         };
         let mut rest = moves::copy(&place.cells)?;
+        if let [only] = args {
+            return self.pass_one(statement, sig, branches, place, *only, rest);
+        }
         let args = arguments::take_all(self.alloc, args, &mut rest)?;
         self.pass(statement, sig, branches, place, &args, rest)
+    }
+
+    /// The same, where this variable is the one argument and isn't taken yet. It needs no list of arguments.
+    fn pass_one(
+        &self,
+        statement: usize,
+        sig: &Sig,
+        branches: &[Branch],
+        place: &Place,
+        variable: u64,
+        held: Held<Cells>,
+    ) -> Result<Branches<Place, RefFault>, AllocError>
+        requires begin { CanBegin self.now.types.now sig.now branches.now place.now (arguments_of.taken_out variable held).1 }
+        requires here { statement + 1 < 2 ^ 64 }
+        ensures { IfOk result (λ parts. AreFirst parts.given.items parts.fault (flow.taken_parts self.now.types.now statement sig.now place.now branches.now (arguments_of.taken (variable ∷ []) held))) }
+    {
+        let mut rest = held;
+        let arg = (
+            variable,
+            arguments::take_out(self.alloc, variable, &mut rest),
+        );
+        self.pass_cells(
+            statement,
+            sig,
+            branches,
+            place,
+            slice::from_ref(&arg),
+            arg.1.items(),
+            rest,
+        )
     }
 
     /// What a libfunc's statement gives its branches, or its fault, where its arguments are taken and this rest is held.
@@ -250,9 +290,6 @@ impl Placing<'_> {
         requires here { statement + 1 < 2 ^ 64 }
         ensures { IfOk result (λ parts. AreFirst parts.given.items parts.fault (flow.taken_parts self.now.types.now statement sig.now place.now branches.now (args.now, rest))) }
     {
-        if let [only] = args {
-            return self.pass_cells(statement, sig, branches, place, args, only.1.items(), rest);
-        }
         let cells = arguments::join(self.alloc, args)?;
         self.pass_cells(statement, sig, branches, place, args, &cells, rest)
     }

@@ -8,6 +8,9 @@ use Rattle.ap_refs.proofs.placing.Placing.pass_cells.Goals as goal
 pub local_step-step-requires-clause-placed : goal.local_step-step-requires-clause-placed
 local_step-step-requires-clause-placed c = placed_of c.args.self.now.types.now c.args.sig.now c.requires.begin.table c.requires.begin.signature
 
+pub give_all-requires-clause-placed : goal.give_all-requires-clause-placed
+give_all-requires-clause-placed c = placed_of c.args.self.now.types.now c.args.sig.now c.requires.begin.table c.requires.begin.signature
+
 pub give_all-requires-clause-step : goal.give_all-requires-clause-step
 give_all-requires-clause-step c =
     let types = c.args.self.now.types.now in
