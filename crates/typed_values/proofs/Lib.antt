@@ -5,6 +5,7 @@ mod FirstLine
 mod FormSteps
 mod FormsOfValues
 mod FormsRead
+mod GivenTypes
 mod InputFaults
 mod InputTexts
 mod Leading

@@ -12,7 +12,7 @@ use Rattle.value_trees.specs.declared.value.Value.{Value}
 use Rattle.type_table.specs.View.{TypesView}
 use Rattle.type_table.specs.declared.type_id.TypeId.{TypeId}
 use Rattle.typed_values.specs.Making.{is_builtin_kind, kept, pairs_meant}
-use Rattle.typed_values.specs.Outcome.{is_builtin, builtin_value, begins, beginning, others, panics, shown}
+use Rattle.typed_values.specs.Outcome.{is_builtin, builtin_value, begins, beginning, others, others_of, panics, shown}
 
 pub builtin_by_kind : (ty : Ty) → is_builtin_kind (kind_of ty) ≡ is_builtin ty
 builtin_by_kind (number k) = refl
@@ -28,6 +28,17 @@ builtin_by_kind (dict k) = refl
 builtin_by_kind (dict_entry k) = refl
 builtin_by_kind (squashed_dict k) = refl
 builtin_by_kind (uninitialized ty) = refl
+
+-- the types that are no builtins, one by one
+pub types_kept : (ty : Ty) (tys done new whole : List Ty) → new ≡ done ++ others_of (ty ∷ []) → done ++ others_of (ty ∷ tys) ≡ whole → new ++ others_of tys ≡ whole
+types_kept ty tys done new whole is h =
+    ap (λ ts. ts ++ others_of tys) is
+    ∙ append_assoc done (others_of (ty ∷ [])) (others_of tys)
+    ∙ ap (λ ts. done ++ ts) (kept_first (is_builtin ty)) ∙ h
+  where
+    kept_first : (b : Bool) → cond b [] (ty ∷ []) ++ others_of tys ≡ cond b (others_of tys) (ty ∷ others_of tys)
+    kept_first true = refl
+    kept_first false = refl
 
 -- behind the last result there is none
 pub none_of_none : (ts : List Ty) → others ts [] ≡ []

@@ -1,5 +1,5 @@
 -- Where a number is told to be out of range, no array is too long; and each fault is told.
-use Rattle.std.proofs.Common.{◌≡◌, ℕ, ◌^◌, ◌<◌, inl, inr, ◌++◌, List, [], ◌∷◌, Some, Result, Ok, Err, refl, sym, ap, ◌∙◌, subst, append_assoc, arith}
+use Rattle.std.proofs.Common.{◌≡◌, ◌↔◌, ℕ, ◌^◌, ◌<◌, inl, inr, ◌++◌, List, [], ◌∷◌, Some, Result, Ok, Err, refl, sym, ap, ◌∙◌, subst, append_assoc, arith}
 use Rattle.std.proofs.lemmas.List.{append-nil}
 use Rattle.std.specs.List.{AllByRecursion, flat_map}
 use Rattle.byte_reading.specs.Decimal.{decimal_text, StartsWithNumber}
@@ -177,20 +177,23 @@ refused_out tys text place can flat is = refused (IsInputFault tys text (faults.
               (no_input tys can gas within text behind rest is_gas was one) front long,
         )
 
--- each fault is told
-pub told_whole : (tys : List Ty) (text : List ℕ) (fault : InputFault) → AllByRecursion CanBeGiven tys → AllByRecursion HasFlatArrays tys → IsInputFault tys text fault → input_at tys text ≡ Err fault
+-- what is told is a fault of the text, ..
+refused_whole : (tys : List Ty) (text : List ℕ) (fault : InputFault) → AllByRecursion CanBeGiven tys → AllByRecursion HasFlatArrays tys → input_at tys text ≡ Err fault → IsInputFault tys text fault
+refused_whole tys text (faults.Syntax place) can flat was = refused_syntax tys text place can was
+refused_whole tys text (faults.OutOfRange place) can flat was = refused_out tys text place can flat was
+refused_whole tys text (faults.LineCount expected found) can flat was = refused_count tys text expected found can was
+refused_whole tys text (faults.LongArray place) can flat was = refused_long tys text place can flat was
+refused_whole tys text faults.GasRange can flat was = refused_gas tys text can was
+refused_whole tys text faults.Memory can flat was =
+    refused ⊥ tys text faults.Memory can (λ h. h) (λ gas behind rest limit lines within is_gas stops told. not_memory limit text rest told) was
+
+-- .. and each fault is told
+told_whole : (tys : List Ty) (text : List ℕ) (fault : InputFault) → AllByRecursion CanBeGiven tys → AllByRecursion HasFlatArrays tys → IsInputFault tys text fault → input_at tys text ≡ Err fault
 told_whole tys text fault can flat has = go (input_at tys text) refl
   where
-    same : (other : InputFault) → input_at tys text ≡ Err other → IsInputFault tys text other → input_at tys text ≡ Err fault
-    same other was is = subst (λ f. input_at tys text ≡ Err f) (one_fault tys text other fault is has) was
-
     go : (answer : Result InputView InputFault) → input_at tys text ≡ answer → input_at tys text ≡ Err fault
     go (Ok i) was = let found = input_sound tys text i was in absurd (not_both tys text fault i has found.0 found.1)
-    go (Err (faults.Syntax place)) was = same (faults.Syntax place) was (refused_syntax tys text place can was)
-    go (Err (faults.OutOfRange place)) was = same (faults.OutOfRange place) was (refused_out tys text place can flat was)
-    go (Err (faults.LineCount expected found)) was = same (faults.LineCount expected found) was (refused_count tys text expected found can was)
-    go (Err (faults.LongArray place)) was = same (faults.LongArray place) was (refused_long tys text place can flat was)
-    go (Err faults.GasRange) was = same faults.GasRange was (refused_gas tys text can was)
-    go (Err faults.Memory) was =
-        let never : ⊥ = refused ⊥ tys text faults.Memory can (λ h. h) (λ gas behind rest limit lines within is_gas stops told. not_memory limit text rest told) was in
-        absurd never
+    go (Err other) was = subst (λ f. input_at tys text ≡ Err f) (one_fault tys text other fault (refused_whole tys text other can flat was) has) was
+
+pub told_if_it_is : (tys : List Ty) (text : List ℕ) (fault : InputFault) → AllByRecursion CanBeGiven tys → AllByRecursion HasFlatArrays tys → (input_at tys text ≡ Err fault) ↔ IsInputFault tys text fault
+told_if_it_is tys text fault can flat = (refused_whole tys text fault can flat, told_whole tys text fault can flat)

@@ -2,7 +2,9 @@
 
 ghost use Rattle.std.specs.Prelude.{◌≡◌, ◌⊎◌, ◌↔◌, ℕ, List, Ok, Err, true};
 ghost use Rattle.std.specs.List.{AllByRecursion};
+ghost use Rattle.sierra_types.specs.declared.program.TypeDecl.{TypeDecl};
 ghost use Rattle.text_reading.specs.declared.place.Place.{Place};
+ghost use Rattle.type_table.specs.IsType.{IsType};
 ghost use Rattle.type_trees.specs.Ty.{Ty, is_plain};
 ghost use Rattle.value_trees.specs.Of.{IsPlain};
 ghost use Rattle.value_trees.specs.Val.{Plain};
@@ -36,11 +38,17 @@ pub fn refused_inputs()
     ensures long { (tys : List Ty) (text : List ℕ) (place : Place) → AllByRecursion CanBeGiven tys → AllByRecursion HasFlatArrays tys → input_at tys text ≡ Err (faults.LongArray place) → IsInputFault tys text (faults.LongArray place) }
 {}
 
-/// A fault of a text is told, where values of the types can be given and the elements of arrays hold no array. Where they do, a fault
-/// that is no array's is told if no array is told to be too long.
+/// A fault is told if and only if it is the text's, where values of the types can be given and the elements of arrays hold no array. Where
+/// they do, a fault that is no array's is told if no array is told to be too long.
 pub fn told_faults()
-    ensures whole { (tys : List Ty) (text : List ℕ) (fault : InputFault) → AllByRecursion CanBeGiven tys → AllByRecursion HasFlatArrays tys → IsInputFault tys text fault → input_at tys text ≡ Err fault }
+    ensures whole { (tys : List Ty) (text : List ℕ) (fault : InputFault) → AllByRecursion CanBeGiven tys → AllByRecursion HasFlatArrays tys → (input_at tys text ≡ Err fault) ↔ IsInputFault tys text fault }
     ensures or_array { (tys : List Ty) (text : List ℕ) (fault : InputFault) → AllByRecursion CanBeGiven tys → IsInputFault tys text fault → ((there : Place) → fault ≡ faults.LongArray there → ⊥) → (input_at tys text ≡ Err fault) ⊎ ((there : Place) × (input_at tys text ≡ Err (faults.LongArray there))) }
+{}
+
+/// Values of the plain types of a program can be given, and the elements of their arrays hold no array, so of an entry's types all that is
+/// said of faults holds.
+pub fn given_types()
+    ensures { (ds : List TypeDecl) (ty : Ty) (id : List ℕ) → IsType ds ty id → is_plain ty ≡ true → CanBeGiven ty × HasFlatArrays ty }
 {}
 
 /// A text has one fault at most, and none where it is an input's. Where a number is out of range, the fault is that or an array that is

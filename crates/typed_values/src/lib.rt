@@ -17,7 +17,7 @@ mod skimming;
 
 pub use fault::{InputFault, ValueLimit};
 pub use input::{Input, read_input};
-pub use laws::{one_fault, one_text, refused_inputs, texts_of_inputs, told_faults};
-pub use making::beginning;
+pub use laws::{given_types, one_fault, one_text, refused_inputs, texts_of_inputs, told_faults};
+pub use making::{beginning, without_builtins};
 pub use outcome::{Outcome, Verdict};
 pub use printing::{print_outcome, print_value, print_verdict};

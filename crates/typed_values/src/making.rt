@@ -5,7 +5,7 @@ ghost use Rattle.std.specs.List.{All};
 ghost use Rattle.type_table.specs.View.{tree_of, trees_of};
 ghost use Rattle.value_trees.specs.Meant.{meant};
 ghost use Rattle.typed_values.specs.Making.{is_builtin_kind, kept, pair_meant, pairs_meant};
-ghost use Rattle.typed_values.specs.Outcome.{is_builtin, builtin_value, beginning, others, left_of, is_panic_result, is_panic, payload_of, panics, shown, outcome_of};
+ghost use Rattle.typed_values.specs.Outcome.{is_builtin, builtin_value, beginning, others, others_of, left_of, is_panic_result, is_panic, payload_of, panics, shown, outcome_of};
 ghost use Rattle.typed_values.specs.Shown.{outcome_meant};
 
 use crate::outcome::Outcome;
@@ -78,6 +78,37 @@ fn is_builtin_kind(kind: TypeKind) -> bool
         TypeKind::RangeCheck | TypeKind::GasBuiltin => true,
         _ => false,
     }
+}
+
+/// Those of the types that are no builtins, in order: of main's parameters, the types of the arguments that an input gives.
+#[tactic(auto, using(crate::proofs::Made::types_kept))]
+pub fn without_builtins(
+    alloc: Global,
+    types: &Types,
+    all: &[TypeId],
+) -> Result<Vec<TypeId>, AllocError>
+    requires { All (λ t. t.0 < length types.now.rows) all.now }
+    ensures trees { IfOk result (λ kept. trees_of types.now kept.items ≡ others_of (trees_of types.now all.now)) }
+    ensures below { IfOk result (λ kept. All (λ t. t.0 < length types.now.rows) kept.items) }
+{
+    let mut kept = Vec::with_capacity(alloc, all.len())?;
+    for id in all {
+        keep_type(types, &mut kept, *id)?;
+    }
+    Ok(kept)
+}
+
+/// Adds the type where it is no builtin.
+#[tactic(auto, using(crate::proofs::Made::builtin_by_kind))]
+fn keep_type(types: &Types, kept: &mut Vec<TypeId>, id: TypeId) -> Result<(), AllocError>
+    requires { id.0 < length types.now.rows }
+    ensures kept { OnOk result (trees_of types.now kept.new.items ≡ trees_of types.now kept.old.items ++ others_of (tree_of types.now id.0 ∷ [])) }
+    ensures below { OnOk result (All (λ t. t.0 < length types.now.rows) kept.old.items → All (λ t. t.0 < length types.now.rows) kept.new.items) }
+{
+    if !is_builtin_kind(types.kind(id)) {
+        kept.push(id)?;
+    }
+    Ok(())
 }
 
 /// What main begins with where the parameter is a builtin.
