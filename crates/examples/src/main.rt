@@ -6,7 +6,8 @@
 //! - `--- NAME` begins a file, whose text is the lines below it; `--- NAME < PART ..` begins one with the text of these parts.
 //! - `$ WORD ..` calls the tool with these words. With ` > NAME` at the end, what it writes is a file of that name too.
 //! - `=== COMMAND PART ..` says what the rows below it do, and `| TEXT` is a row: its text is the file `row`, and the command
-//!   is called with the file that the parts make, of which `row` is one.
+//!   is called with the file that the parts make, of which `row` is one. Behind ` <- ` in a row stands an input, in which `/`
+//!   is the end of a line: the file `input`, with which the command is called too.
 //! - `# TEXT` is a heading. It ends a file, as each of these lines does; behind a heading or a command, other lines are prose.
 //!
 //! A part is the name of a file, `NAME:FROM:TO` for its bytes from one place up to another, `3*NAME` for three times its

@@ -81,16 +81,26 @@ impl<F: Files> Session<F> {
         Ok(())
     }
 
-    /// Calls the table's command with the file that the table's parts make with this row.
+    /// Calls the table's command with the file that the table's parts make with this row, and with the row's input if it has
+    /// one.
     fn row(&mut self, text: &str) -> Result<(), AllocError> {
         self.is_open = false;
-        let row = text.as_bytes().to_vec(self.alloc)?;
-        self.texts.add("row", row)?;
+        let (row, input) = match text.split_once(" <- ") {
+            Some((row, input)) => (row, Some(input)),
+            None => (text, None),
+        };
+        self.texts.add("row", row.as_bytes().to_vec(self.alloc)?)?;
         let table = self.table.clone()?;
         let (command, parts) = table.split_once(' ').unwrap_or((table.as_str(), ""));
         let program = self.joined(parts)?;
         self.texts.add("program", program)?;
-        let words = format!(in self.alloc; "{command} program")?;
+        let words = match input {
+            Some(input) => {
+                self.texts.add("input", lines(self.alloc, input)?)?;
+                format!(in self.alloc; "{command} program input")?
+            }
+            None => format!(in self.alloc; "{command} program")?,
+        };
         self.call(words.as_str())
     }
 
@@ -201,4 +211,13 @@ fn owned(alloc: Global, text: &str) -> Result<Vec<String>, AllocError> {
         words.push(String::from_str(alloc, word)?)?;
     }
     Ok(words)
+}
+
+/// The lines of a text in which `/` stands for the end of a line.
+fn lines(alloc: Global, text: &str) -> Result<Vec<u8>, AllocError> {
+    let mut bytes = Vec::with_capacity(alloc, text.len())?;
+    for byte in text.as_bytes() {
+        bytes.push(if *byte == b'/' { b'\n' } else { *byte })?;
+    }
+    Ok(bytes)
 }

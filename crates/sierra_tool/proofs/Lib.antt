@@ -1,13 +1,17 @@
+pub mod Arguments
 pub mod Assembling
 pub mod Causes
 pub mod Checking
 pub mod CommandLaws
+pub mod Evaluating
 pub mod Exact
 pub mod FormStages
 pub mod Headline
+pub mod OneNumber
 pub mod Planning
 pub mod Showing
 pub mod Stages
 pub mod Starting
 pub mod Trees
+pub mod Verdicts
 pub mod WordLines

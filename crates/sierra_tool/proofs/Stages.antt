@@ -24,6 +24,7 @@ use Rattle.sierra_tool.specs.Causes.{Reading, absent, unread, found, SourceReadi
 use Rattle.sierra_tool.specs.Command.{limit, name_of, IsRead}
 use Rattle.sierra_tool.specs.Exact.{reading_of}
 use Rattle.sierra_tool.specs.Stages.{Stops, IsUnfit, ReadsSource, Reaches, IsCaused, IsNotMissing, IsDelivered}
+use Rattle.sierra_tool.specs.Known.{Known}
 use Rattle.sierra_tool.specs.Tool.{IsCounted, MayHaveFirst, IsOutOfMemory, IsAnswered}
 use Rattle.sierra_tool.proofs.Causes.{one_answer}
 
@@ -224,6 +225,7 @@ begins before command = record { keeps = record { contents = refl; faults = omeg
 pub program_present : (known : Option FileMap) (command : Command) (readings : SourceReadings) → AreReadings known (Some command) readings → IsRead command sources.Program → readings sources.Program ≢ absent → MayHaveFirst known (Some command)
 program_present known (commands.Check check) readings given is present = may_be_there known check.program.now (readings sources.Program) (given sources.Program) present
 program_present known (commands.Run execute) readings given is present = may_be_there known execute.program.now (readings sources.Program) (given sources.Program) present
+program_present known (commands.Eval evaluate) readings given is present = may_be_there known evaluate.program.now (readings sources.Program) (given sources.Program) present
 program_present known (commands.Gas gas) readings given is present = may_be_there known gas.program.now (readings sources.Program) (given sources.Program) present
 program_present known (commands.Show show) readings given is present = may_be_there known show.program.now (readings sources.Program) (given sources.Program) present
 program_present known (commands.Asm assemble) readings given is present = absurd cc
@@ -236,22 +238,24 @@ program_read_present known command readings program given is has =
 -- ---- An answer that was delivered
 
 -- a first file that isn't missing may be there
-first_may_be_there : (known : Option FileMap) (command : Command) (readings : SourceReadings) (answer : Answer) → AreReadings known (Some command) readings → Cause (Some command) readings answer → IsNotMissing answer → MayHaveFirst known (Some command)
-first_may_be_there known (commands.Check check) readings answer given cause not_missing =
-    program_present known (commands.Check check) readings given refl (λ is. not_missing sources.Program (one_answer (Some (commands.Check check)) readings answer (answers.Missing sources.Program) cause (refl, is)))
-first_may_be_there known (commands.Run execute) readings answer given cause not_missing =
-    program_present known (commands.Run execute) readings given refl (λ is. not_missing sources.Program (one_answer (Some (commands.Run execute)) readings answer (answers.Missing sources.Program) cause (refl, is)))
-first_may_be_there known (commands.Gas gas) readings answer given cause not_missing =
-    program_present known (commands.Gas gas) readings given refl (λ is. not_missing sources.Program (one_answer (Some (commands.Gas gas)) readings answer (answers.Missing sources.Program) cause (refl, is)))
-first_may_be_there known (commands.Show show) readings answer given cause not_missing =
-    program_present known (commands.Show show) readings given refl (λ is. not_missing sources.Program (one_answer (Some (commands.Show show)) readings answer (answers.Missing sources.Program) cause (refl, is)))
-first_may_be_there known (commands.Asm assemble) readings answer given cause not_missing =
-    may_be_there known assemble.file.now (readings sources.Casm) (given sources.Casm) (λ is. not_missing sources.Casm (one_answer (Some (commands.Asm assemble)) readings answer (answers.Missing sources.Casm) cause (refl, is)))
-first_may_be_there known commands.Planned readings answer given cause not_missing = λ e. cc
+first_may_be_there : Known → (known : Option FileMap) (command : Command) (readings : SourceReadings) (answer : Answer) → AreReadings known (Some command) readings → Cause (Some command) readings answer → IsNotMissing answer → MayHaveFirst known (Some command)
+first_may_be_there laws known (commands.Check check) readings answer given cause not_missing =
+    program_present known (commands.Check check) readings given refl (λ is. not_missing sources.Program (one_answer laws (Some (commands.Check check)) readings answer (answers.Missing sources.Program) cause (refl, is)))
+first_may_be_there laws known (commands.Run execute) readings answer given cause not_missing =
+    program_present known (commands.Run execute) readings given refl (λ is. not_missing sources.Program (one_answer laws (Some (commands.Run execute)) readings answer (answers.Missing sources.Program) cause (refl, is)))
+first_may_be_there laws known (commands.Eval evaluate) readings answer given cause not_missing =
+    program_present known (commands.Eval evaluate) readings given refl (λ is. not_missing sources.Program (one_answer laws (Some (commands.Eval evaluate)) readings answer (answers.Missing sources.Program) cause (refl, is)))
+first_may_be_there laws known (commands.Gas gas) readings answer given cause not_missing =
+    program_present known (commands.Gas gas) readings given refl (λ is. not_missing sources.Program (one_answer laws (Some (commands.Gas gas)) readings answer (answers.Missing sources.Program) cause (refl, is)))
+first_may_be_there laws known (commands.Show show) readings answer given cause not_missing =
+    program_present known (commands.Show show) readings given refl (λ is. not_missing sources.Program (one_answer laws (Some (commands.Show show)) readings answer (answers.Missing sources.Program) cause (refl, is)))
+first_may_be_there laws known (commands.Asm assemble) readings answer given cause not_missing =
+    may_be_there known assemble.file.now (readings sources.Casm) (given sources.Casm) (λ is. not_missing sources.Casm (one_answer laws (Some (commands.Asm assemble)) readings answer (answers.Missing sources.Casm) cause (refl, is)))
+first_may_be_there laws known commands.Planned readings answer given cause not_missing = λ e. cc
 
 -- what the tool did, where the answer of a command was delivered
-pub delivers_answer : (before now : FilesView) (out written : SinkView) (command : Command) (readings : SourceReadings) (answer : Answer) (status : ℕ) → AreReadings before.contents (Some command) readings → IsCaused before now (Some command) readings answer → IsDelivered out written (Some command) answer status → IsAnswered before now out written (Some command) status ⊎ IsOutOfMemory before.contents out written (Some command) status
-delivers_answer before now out written command readings answer status given caused (inl delivered) =
+pub delivers_answer : Known → (before now : FilesView) (out written : SinkView) (command : Command) (readings : SourceReadings) (answer : Answer) (status : ℕ) → AreReadings before.contents (Some command) readings → IsCaused before now (Some command) readings answer → IsDelivered out written (Some command) answer status → IsAnswered before now out written (Some command) status ⊎ IsOutOfMemory before.contents out written (Some command) status
+delivers_answer laws before now out written command readings answer status given caused (inl delivered) =
     inl (record { readings = readings; given = given; answer = answer; cause = caused.0; counted = caused.1; delivered = delivered })
-delivers_answer before now out written command readings answer status given caused (inr (is, nothing, not_missing)) =
-    inr (is, first_may_be_there before.contents command readings answer given caused.0 not_missing, nothing)
+delivers_answer laws before now out written command readings answer status given caused (inr (is, nothing, not_missing)) =
+    inr (is, first_may_be_there laws before.contents command readings answer given caused.0 not_missing, nothing)

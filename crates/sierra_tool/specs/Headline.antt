@@ -1,4 +1,4 @@
--- What `run` writes: the run file of a run that is accepted, and whose verdict is the meaning.
+-- What `run` writes: the run file of a run that is accepted, and whose verdict is the meaning. What `eval` writes: the meaning.
 use Rattle.std.specs.Prelude.{ℕ, ◌≡◌, List, Some}
 use Rattle.edge_io.specs.Files.{FilesView}
 use Rattle.edge_io.specs.Sinks.{SinkView, WritesAll}
@@ -6,11 +6,18 @@ use Rattle.first_form.specs.declared.program.Program.{Program}
 use Rattle.first_form.specs.declared.input.Input.{Input}
 use Rattle.first_form.specs.declared.verdict.Verdict.{Verdict}
 use Rattle.first_form.specs.Runs.{IsAccepted, IsVerdict}
+use Rattle.gas_solver.specs.Accepting.{AcceptedView}
 use Rattle.run_file.specs.declared.run.Run.{Run}
+use Rattle.sierra_meaning.specs.Main.{statement_bound}
+use Rattle.sierra_meaning.specs.Outcome.{MeansWithin}
 use Rattle.sierra_tool.specs.declared.command.Command.TheVariants as commands
+use Rattle.sierra_tool.specs.declared.command.Evaluate.{Evaluate}
 use Rattle.sierra_tool.specs.declared.command.Execute.{Execute}
-use Rattle.sierra_tool.specs.Causes.{SourceReadings, AreReadings, IsRunFile, CanRun}
+use Rattle.sierra_tool.specs.Causes.{SourceReadings, AreReadings, IsRunFile, CanRun, CanEvaluate}
 use Rattle.sierra_tool.specs.Command.{IsCommand}
+use Rattle.typed_values.specs.Inputs.{InputView}
+use Rattle.typed_values.specs.Outcome.{OutcomeView}
+use Rattle.typed_values.specs.Texts.{outcome_text}
 
 -- a run file was written, and `check` accepts it with the program and the input that were read: its run is accepted, and
 -- the verdict that it shows is the meaning
@@ -32,3 +39,20 @@ pub record WritesAcceptedRun (before : FilesView) (out written : SinkView) (exec
 abbrev pub RunsAreAccepted : List (List ℕ) → FilesView → SinkView → SinkView → ℕ → Type 0
 RunsAreAccepted arguments before out written status =
     (execute : Execute) → IsCommand arguments (commands.Run execute) → status ≡ 0 → WritesAcceptedRun before out written execute
+
+-- what was written is the text of an outcome, which the program that was read means on the input that was read: main ends with
+-- it, after no more statements than the bound
+pub record WritesMeaning (before : FilesView) (out written : SinkView) (evaluate : Evaluate) : Type 0 where
+  pub readings : SourceReadings
+  pub given : AreReadings before.contents (Some (commands.Eval evaluate)) readings
+  pub program : AcceptedView
+  pub input : InputView
+  pub start : CanEvaluate readings program input
+  pub outcome : OutcomeView
+  pub is_meaning : MeansWithin program input (statement_bound program input.gas) outcome
+  pub written_whole : WritesAll out written (outcome_text outcome)
+
+-- where `eval` ends with status 0
+abbrev pub OutcomesAreMeant : List (List ℕ) → FilesView → SinkView → SinkView → ℕ → Type 0
+OutcomesAreMeant arguments before out written status =
+    (evaluate : Evaluate) → IsCommand arguments (commands.Eval evaluate) → status ≡ 0 → WritesMeaning before out written evaluate

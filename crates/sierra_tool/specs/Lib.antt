@@ -1,8 +1,12 @@
 pub mod Causes
 pub mod Command
+pub mod Evaluating
 pub mod Exact
 pub mod Headline
+pub mod Known
 pub mod Lines
+pub mod OneNumber
 pub mod Output
 pub mod Stages
 pub mod Tool
+pub mod Verdicts

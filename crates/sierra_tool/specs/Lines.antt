@@ -14,6 +14,8 @@ use Rattle.run_file.specs.declared.refusal.FileRefusal.{FileRefusal}
 use Rattle.run_file.specs.declared.refusal.FileRefusal.TheVariants as file_refusals
 use Rattle.sierra_text.specs.declared.fault.TextFault.{TextFault}
 use Rattle.sierra_text.specs.declared.fault.TextFault.TheVariants as text_faults
+use Rattle.typed_values.specs.declared.fault.InputFault.{InputFault}
+use Rattle.typed_values.specs.declared.fault.InputFault.TheVariants as input_faults
 
 -- a code and a number behind it
 abbrev pub one_number : List ℕ → ℕ → List ℕ
@@ -37,6 +39,15 @@ asm_fault_line (asm_faults.OffsetRange line) = one_number (codes "A2") line
 asm_fault_line (asm_faults.ImmRange line) = one_number (codes "A3") line
 asm_fault_line asm_faults.TooLong = codes "A4\n"
 asm_fault_line asm_faults.Memory = []
+
+-- the line of a text that is no input of main; out of memory is no refusal
+abbrev pub input_fault_line : InputFault → List ℕ
+input_fault_line (input_faults.Syntax place) = two_numbers (codes "I1") place.line place.column
+input_fault_line (input_faults.OutOfRange place) = two_numbers (codes "I2") place.line place.column
+input_fault_line (input_faults.LineCount expected found) = two_numbers (codes "I3") expected found
+input_fault_line (input_faults.LongArray place) = two_numbers (codes "I4") place.line place.column
+input_fault_line input_faults.GasRange = codes "I5\n"
+input_fault_line input_faults.Memory = []
 
 -- the line of a file that is no run file; out of memory is no refusal
 abbrev pub file_refusal_line : FileRefusal → List ℕ

@@ -15,6 +15,7 @@ bytes_of (texts.Held bytes) = bytes.now
 -- the lines that are made for an answer as text; for bytes that it holds, and for a line of bytes, there are none
 abbrev pub lines_of : Option Command → Answer → List ℕ
 lines_of command (answers.Ran file) = []
+lines_of command (answers.Evaluated text) = []
 lines_of command (answers.Printed text) = []
 lines_of command (answers.ProgramRefused refusal) = []
 lines_of command answer = text_of command answer

@@ -1,5 +1,5 @@
 -- What the parts of a command's work give, one source at a time. Only contracts inside this crate cite it.
-use Rattle.std.specs.Prelude.{⊤, ℕ, ◌≡◌, ◌≢◌, ◌⊎◌, ◌≤◌, List, [], length, Option, Result, Ok, Err, MatchResult}
+use Rattle.std.specs.Prelude.{⊤, ℕ, ◌≡◌, ◌≢◌, ◌⊎◌, ◌≤◌, ◌<◌, List, [], length, Option, Some, Result, Ok, Err, MatchResult}
 use Rattle.edge_io.specs.Files.{FilesView, Keeps}
 use Rattle.edge_io.specs.Sinks.{SinkView, WritesAll, WritesPart}
 use Rattle.run_file.specs.declared.refusal.FileRefusal.{FileRefusal}
@@ -13,18 +13,22 @@ use Rattle.sierra_tool.specs.declared.answer.Stop.{Stop}
 use Rattle.sierra_tool.specs.declared.answer.Stop.TheVariants as stops
 use Rattle.sierra_tool.specs.declared.command.Command.{Command}
 use Rattle.sierra_tool.specs.declared.command.Source.{Source}
+use Rattle.sierra_tool.specs.declared.command.Source.TheVariants as sources
 use Rattle.sierra_tool.specs.declared.output.Unwritten.{Unwritten}
 use Rattle.sierra_tool.specs.declared.output.Unwritten.TheVariants as unwritten
 use Rattle.sierra_tool.specs.declared.work.Start.{Start}
+use Rattle.sierra_tool.specs.Causes.{Reading, absent, unread, found, SourceReadings, Gives, AreReadings, Holds, IsTooLong, IsRefusedTree, IsAcceptedText, IsForm, IsOfNoForm, IsNoInputOf, IsNoRunFile, CanRun, Cause}
+use Rattle.gas_solver.specs.Accepting.{AcceptedView}
+use Rattle.first_form.specs.Meaning.{entry_gas}
 use Rattle.first_form.specs.declared.program.Program.{Program}
-use Rattle.first_form.specs.declared.input.Input.{Input}
-use Rattle.sierra_tool.specs.Causes.{Reading, absent, unread, found, SourceReadings, Gives, AreReadings, Holds, IsTooLong, IsRefusedTree, IsOfNoForm, IsNoRunFile, CanRun, Cause}
-use Rattle.first_form.specs.Forms.{IsInput}
+use Rattle.typed_values.specs.Inputs.{InputView}
+use Rattle.typed_values.specs.declared.fault.InputFault.{InputFault}
 use Rattle.program_checks.specs.Checks as checks
 use Rattle.program_checks.specs.declared.checking.Checked.{Checked}
 use Rattle.program_checks.specs.declared.refusal.Refusal.{Refusal}
 use Rattle.sierra_types.specs.declared.program.Program.{Program as Tree}
-use Rattle.sierra_tool.specs.Command.{limit, status_of, text_of}
+use Rattle.sierra_tool.specs.Command.{name_of, limit, status_of, text_of}
+use Rattle.sierra_tool.specs.OneNumber.{with_number}
 use Rattle.sierra_tool.specs.Tool.{IsCounted, Delivers, MayHaveFirst}
 
 -- a stop is a refusal or out of memory
@@ -57,8 +61,8 @@ NoChecked text answer = NoTree text answer ⊎ FailsChecks text answer
 abbrev pub NoProgram : List ℕ → Answer → Type 0
 NoProgram text answer = NoTree text answer ⊎ FailsChecks text answer ⊎ (IsOfNoForm text × (answer ≡ answers.NotBuilt))
 
-abbrev pub NoInput : Program → List ℕ → Answer → Type 0
-NoInput program text answer = ((input : Input) → IsInput program text input → ⊥) × (answer ≡ answers.NotBuilt)
+abbrev pub NoInputOf : AcceptedView → List ℕ → Answer → Type 0
+NoInputOf a text answer = (fault : InputFault) × IsNoInputOf a text fault × (answer ≡ answers.InputRefused fault)
 
 abbrev pub NoRun : List ℕ → Answer → Type 0
 NoRun bytes answer = (refusal : FileRefusal) × IsNoRunFile bytes refusal × (answer ≡ answers.RunRefused refusal)
@@ -80,6 +84,28 @@ pub record ReadsSource {X : Type 0} (before now : FilesView) (name : List ℕ) (
 abbrev pub PassesChecks : Tree → Result Checked Stop → Type 0
 PassesChecks tree result =
     MatchResult result (checks.Finds tree) (Stops (λ answer. (refusal : Refusal) × checks.Refused tree refusal × (answer ≡ answers.ProgramRefused refusal)) (Unit {0}))
+
+-- the program of a file, with all that is found of it
+abbrev pub ReadsAccepted : FilesView → FilesView → List ℕ → Result AcceptedView Stop → Type 0
+ReadsAccepted before now name =
+    ReadsSource before now name (λ given a. Holds sources.Program given (λ text. IsAcceptedText text a)) (IsRefused sources.Program NoChecked)
+
+-- Wherever this program was read from the command's file, work since then has done this, as seen from before that reading.
+abbrev pub OnceRead : FilesView → Option Command → AcceptedView → (FilesView → Type 0) → Type 0
+OnceRead now command a done =
+    (before : FilesView) (name : List ℕ) → name_of command sources.Program ≡ Some name → ReadsAccepted before now name (Ok a) → done before
+
+-- the program of the form that is built which the accepted program is, or it is of no such form
+abbrev pub GivesForm : AcceptedView → Result Program Stop → Type 0
+GivesForm a result =
+    MatchResult result (IsForm a) (Stops (λ answer. ((program : Program) → IsForm a program → ⊥) × (answer ≡ answers.NotBuilt)) (Unit {0}))
+
+-- the program with the input's one number, or the input has less gas than a run of the program needs
+abbrev pub GivesStart : Program → InputView → Result Start Stop → Type 0
+GivesStart program input result =
+    MatchResult result
+    (λ start. (start.program ≡ program) × (input ≡ with_number start.input) × (entry_gas program ≤ input.gas))
+    (Stops (λ answer. (input.gas < entry_gas program) × (answer ≡ answers.NotEnoughGas (entry_gas program) input.gas)) ⊥)
 
 -- the bytes that were found
 abbrev pub IsFound : Source → Reading → List ℕ → Type 0

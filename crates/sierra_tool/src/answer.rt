@@ -15,6 +15,7 @@ use run_file::FileRefusal;
 use sierra_text::TextFault;
 use std::alloc::AllocError;
 use std::marker::Model;
+use typed_values::InputFault;
 
 /// The answer to a call that didn't run out of memory.
 #[derive(Debug, Drop)]
@@ -23,6 +24,8 @@ pub enum Answer {
     Judged(Verdict),
     /// The bytes of the honest run's file.
     Ran(Bytes),
+    /// The text of what the program means on the input.
+    Evaluated(Bytes),
     /// The program's gas plan.
     Plan(GasPlan),
     /// The program's text in the plain layout.
@@ -37,7 +40,7 @@ pub enum Answer {
     ReadFault(Source),
     /// The file has more bytes than it may have.
     TooLong(Source),
-    /// The command isn't built, or the program or the input isn't of the form that is built.
+    /// The command isn't built, or the program of a run isn't of the form that is built.
     NotBuilt,
     /// The bytes are no Sierra text, by this fault.
     TextRefused(TextFault),
@@ -45,6 +48,8 @@ pub enum Answer {
     CasmRefused(AsmFault),
     /// The program is refused, for this first reason.
     ProgramRefused(Refusal),
+    /// The text is that of no input of main, by this fault.
+    InputRefused(InputFault),
     /// The input's gas is less than a run of the program needs.
     NotEnoughGas {
         /// The gas that a run needs.
@@ -66,6 +71,7 @@ impl Answer {
         match self {
             Answer::Judged(_)
             | Answer::Ran(_)
+            | Answer::Evaluated(_)
             | Answer::Plan(_)
             | Answer::Printed(_)
             | Answer::Assembled(_) => 0,
@@ -76,6 +82,7 @@ impl Answer {
             Answer::NotBuilt => 9,
             Answer::TextRefused(_) | Answer::CasmRefused(_) => 10,
             Answer::ProgramRefused(_) => 11,
+            Answer::InputRefused(_) => 12,
             Answer::NotEnoughGas { .. } => 13,
             Answer::RunRefused(_) => 14,
             Answer::RunRejected(_) => 15,

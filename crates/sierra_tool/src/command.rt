@@ -6,6 +6,7 @@ ghost use Rattle.byte_reading.specs.Decimal.{decimal_text};
 ghost use Rattle.sierra_tool.specs.declared.command.Assemble.{Assemble as AssembleName};
 ghost use Rattle.sierra_tool.specs.declared.command.Check.{Check as CheckNames};
 ghost use Rattle.sierra_tool.specs.declared.command.Command.TheVariants as commands;
+ghost use Rattle.sierra_tool.specs.declared.command.Evaluate.{Evaluate as EvaluateNames};
 ghost use Rattle.sierra_tool.specs.declared.command.Execute.{Execute as ExecuteNames};
 ghost use Rattle.sierra_tool.specs.declared.command.Gas.{Gas as GasName};
 ghost use Rattle.sierra_tool.specs.declared.command.Show.{Show as ShowName};
@@ -57,6 +58,15 @@ pub struct Execute<'a> {
     pub input: &'a str,
 }
 
+/// The command `eval PROGRAM INPUT`, by the names of its files.
+#[derive(Clone, Copy, Debug, PartialEq, Eq)]
+pub struct Evaluate<'a> {
+    /// The name of the program.
+    pub program: &'a str,
+    /// The name of the input.
+    pub input: &'a str,
+}
+
 /// The command `gas PROGRAM`, by the name of its file.
 #[derive(Clone, Copy, Debug, PartialEq, Eq)]
 pub struct Gas<'a> {
@@ -85,6 +95,8 @@ pub enum Command<'a> {
     Check(Check<'a>),
     /// `run PROGRAM INPUT`: the run file of the honest run.
     Run(Execute<'a>),
+    /// `eval PROGRAM INPUT`: what a program means on an input.
+    Eval(Evaluate<'a>),
     /// `gas PROGRAM`: the gas plan of a program.
     Gas(Gas<'a>),
     /// `show PROGRAM`: a program in the plain layout.
@@ -122,6 +134,23 @@ impl<'a> Execute<'a> {
     {
         match arguments {
             [word, program, input] if word.as_str() == "run" => Some(Execute {
+                program: program.as_str(),
+                input: input.as_str(),
+            }),
+            _ => None,
+        }
+    }
+}
+
+impl<'a> Evaluate<'a> {
+    /// The program and the input of which the arguments ask for the meaning.
+    fn of(arguments: &'a [String]) -> Option<Evaluate<'a>>
+        ensures { MatchOption result
+            ((evaluate : EvaluateNames) → IsCommand (map string_bytes arguments.now) (commands.Eval evaluate) → ⊥)
+            (λ evaluate. IsCommand (map string_bytes arguments.now) (commands.Eval evaluate)) }
+    {
+        match arguments {
+            [word, program, input] if word.as_str() == "eval" => Some(Evaluate {
                 program: program.as_str(),
                 input: input.as_str(),
             }),
@@ -187,6 +216,8 @@ impl<'a> Command<'a> {
             Some(Command::Check(check))
         } else if let Some(execute) = Execute::of(arguments) {
             Some(Command::Run(execute))
+        } else if let Some(evaluate) = Evaluate::of(arguments) {
+            Some(Command::Eval(evaluate))
         } else if let Some(gas) = Gas::of(arguments) {
             Some(Command::Gas(gas))
         } else if let Some(show) = Show::of(arguments) {
@@ -210,6 +241,8 @@ impl<'a> Command<'a> {
             (Command::Check(check), Source::Run) => Some(check.run),
             (Command::Run(execute), Source::Program) => Some(execute.program),
             (Command::Run(execute), Source::Input) => Some(execute.input),
+            (Command::Eval(evaluate), Source::Program) => Some(evaluate.program),
+            (Command::Eval(evaluate), Source::Input) => Some(evaluate.input),
             (Command::Gas(gas), Source::Program) => Some(gas.program),
             (Command::Show(show), Source::Program) => Some(show.program),
             (Command::Asm(assemble), Source::Casm) => Some(assemble.file),
@@ -241,7 +274,6 @@ fn takes(word: &str, others: &[String]) -> bool
 {
     match word {
         "compile" => others.len() == 1,
-        "eval" => others.len() == 2,
         "run" => others.len() == 3,
         "make" => is_one_number(others),
         _ => false,

@@ -8,8 +8,10 @@ mod answer;
 mod assemble;
 mod check;
 mod command;
+mod evaluate;
 mod execute;
 mod gas;
+mod inputs;
 mod laws;
 mod lines;
 mod output;
@@ -18,6 +20,6 @@ mod tool;
 mod work;
 
 pub use answer::{Answer, Bytes};
-pub use command::{Assemble, Check, Command, Execute, Gas, Show, Source};
+pub use command::{Assemble, Check, Command, Evaluate, Execute, Gas, Show, Source};
 pub use laws::{one_answer, some_answer};
 pub use tool::{Shelf, sierra_tool};

@@ -2,7 +2,7 @@
 //! to write.
 
 ghost use Rattle.std.specs.Prelude.{◌≡◌, ◌++◌, IfOk, OnOk, string_bytes};
-ghost use Rattle.sierra_tool.specs.Lines.{text_fault_line, asm_fault_line, file_refusal_line, step_fault_text, word_text, check_fault_line, word_line, instr_lines, words_text};
+ghost use Rattle.sierra_tool.specs.Lines.{text_fault_line, asm_fault_line, input_fault_line, file_refusal_line, step_fault_text, word_text, check_fault_line, word_line, instr_lines, words_text};
 
 use casm_text::AsmFault;
 use casm_word::{Code, Instr, encode};
@@ -12,6 +12,7 @@ use ro_machine::StepFault;
 use run_file::FileRefusal;
 use sierra_text::TextFault;
 use std::alloc::{AllocError, Global};
+use typed_values::InputFault;
 
 /// The line of a Sierra text that is refused.
 pub fn text_fault_line(alloc: Global, fault: &TextFault) -> Result<String, AllocError>
@@ -44,6 +45,31 @@ pub fn asm_fault_line(alloc: Global, fault: &AsmFault) -> Result<String, AllocEr
         AsmFault::ImmRange(line) => format!(in alloc; "A3 {line}\n"),
         AsmFault::TooLong => String::from_str(alloc, "A4\n"),
         AsmFault::Memory => Ok(String::new(alloc)),
+    }
+}
+
+/// The line of a text that is no input of main.
+pub fn input_fault_line(alloc: Global, fault: &InputFault) -> Result<String, AllocError>
+    ensures { IfOk result (λ line. string_bytes line ≡ input_fault_line fault.now) }
+{
+    match *fault {
+        InputFault::Syntax(place) => {
+            let (line, column) = (place.line, place.column);
+            format!(in alloc; "I1 {line} {column}\n")
+        }
+        InputFault::OutOfRange(place) => {
+            let (line, column) = (place.line, place.column);
+            format!(in alloc; "I2 {line} {column}\n")
+        }
+        InputFault::LineCount { expected, found } => {
+            format!(in alloc; "I3 {expected} {found}\n")
+        }
+        InputFault::LongArray(place) => {
+            let (line, column) = (place.line, place.column);
+            format!(in alloc; "I4 {line} {column}\n")
+        }
+        InputFault::GasRange => String::from_str(alloc, "I5\n"),
+        InputFault::Memory => Ok(String::new(alloc)),
     }
 }
 

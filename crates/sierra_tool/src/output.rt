@@ -11,7 +11,8 @@ ghost use Rattle.sierra_tool.specs.declared.output.Unwritten.TheVariants as unwr
 use crate::answer::Answer;
 use crate::command::Command;
 use crate::lines::{
-    asm_fault_line, check_fault_line, file_refusal_line, text_fault_line, words_text,
+    asm_fault_line, check_fault_line, file_refusal_line, input_fault_line, text_fault_line,
+    words_text,
 };
 use edge_io::{Failed, Sink, write_all};
 use first_form::verdict_text;
@@ -95,6 +96,7 @@ fn text<'a>(
 {
     match answer {
         Answer::Ran(file) => Ok(AnswerText::Held(file.as_slice())),
+        Answer::Evaluated(text) => Ok(AnswerText::Held(text.as_slice())),
         Answer::Printed(text) => Ok(AnswerText::Held(text.as_slice())),
         Answer::ProgramRefused(refusal) => Ok(AnswerText::Line(refusal_line(alloc, refusal)?)),
         _ => Ok(AnswerText::Made(lines(alloc, command, answer)?)),
@@ -107,7 +109,8 @@ fn lines(alloc: Global, command: &Command, answer: &Answer) -> Result<String, Al
 {
     match answer {
         Answer::Judged(verdict) => verdict_text(alloc, verdict),
-        Answer::Ran(_) | Answer::Printed(_) | Answer::ProgramRefused(_) => Ok(String::new(alloc)),
+        Answer::Ran(_) | Answer::Evaluated(_) | Answer::Printed(_) | Answer::ProgramRefused(_) =>
+            Ok(String::new(alloc)),
         Answer::Plan(plan) => gas_solver::print(alloc, plan),
         Answer::Assembled(code) => words_text(alloc, code),
         Answer::Usage => String::from_str(alloc, "usage\n"),
@@ -117,6 +120,7 @@ fn lines(alloc: Global, command: &Command, answer: &Answer) -> Result<String, Al
         Answer::NotBuilt => String::from_str(alloc, "not built\n"),
         Answer::TextRefused(fault) => text_fault_line(alloc, fault),
         Answer::CasmRefused(fault) => asm_fault_line(alloc, fault),
+        Answer::InputRefused(fault) => input_fault_line(alloc, fault),
         Answer::NotEnoughGas { need, given } => format!(in alloc; "need {need} given {given}\n"),
         Answer::RunRefused(refusal) => file_refusal_line(alloc, refusal),
         Answer::RunRejected(fault) => check_fault_line(alloc, fault),

@@ -6,11 +6,13 @@ ghost use Rattle.edge_io.specs.Files.{Keeps};
 ghost use Rattle.sierra_tool.specs.Command.{text_of};
 ghost use Rattle.sierra_tool.specs.Stages.{Works, IsDelivered};
 ghost use Rattle.sierra_tool.specs.Exact.{IsExact};
-ghost use Rattle.sierra_tool.specs.Headline.{RunsAreAccepted};
+ghost use Rattle.sierra_tool.specs.Headline.{RunsAreAccepted, OutcomesAreMeant};
 ghost use Rattle.sierra_tool.specs.Tool.{Tool, Delivers};
+ghost use Rattle.sierra_tool.specs.Verdicts.{VerdictsAreMeant};
 
 use crate::answer::{Answer, Stop};
 use crate::command::Command;
+use crate::laws::known;
 use crate::output::{Unwritten, write_answer};
 use edge_io::{Files, Sink, write_all};
 use std::alloc::Global;
@@ -42,8 +44,15 @@ pub fn sierra_tool<F: Files, S: Sink>(
     // Of known files, each status comes if and only if its cause holds, faults and out of memory aside.
     ensures exact { IsExact (map string_bytes arguments.now) (F.view files.old).contents result }
 
+    // What `check` writes at status 0, whoever made the run file, is the meaning of the program on the input, and the run costs
+    // at most the gas used.
+    ensures verdicts { VerdictsAreMeant (map string_bytes arguments.now) (F.view files.old) (S.view out.old) (S.view out.new) result }
+
     // What `run` writes at status 0 is a run file that `check` accepts.
     ensures runs { RunsAreAccepted (map string_bytes arguments.now) (F.view files.old) (S.view out.old) (S.view out.new) result }
+
+    // What `eval` writes at status 0 is what the program means on the input.
+    ensures outcomes { OutcomesAreMeant (map string_bytes arguments.now) (F.view files.old) (S.view out.old) (S.view out.new) result }
 
     // Of any files, and any output.
     ensures missed { result ≡ 3 → Rose (F.view files.old).misses (F.view files.new).misses }
@@ -51,6 +60,7 @@ pub fn sierra_tool<F: Files, S: Sink>(
     ensures write_failed { result ≡ 5 → Rose (S.view out.old).faults (S.view out.new).faults }
 {
     let Shelf {} = shelf;
+    known();
     work(alloc, arguments, files, out)
 }
 
@@ -60,6 +70,7 @@ fn work<F: Files, S: Sink>(alloc: Global, arguments: &[String], files: &mut F, o
     ensures tool { Tool (map string_bytes arguments.now)
         (F.view files.old) (F.view files.new) (S.view out.old) (S.view out.new) result }
 {
+    known();
     let Some(command) = Command::of(arguments) else {
         return refuse(out);
     };
@@ -77,6 +88,7 @@ fn answer<F: Files>(alloc: Global, files: &mut F, command: &Command) -> Result<A
     match command {
         Command::Check(check) => check.answer(alloc, files),
         Command::Run(execute) => execute.answer(alloc, files),
+        Command::Eval(evaluate) => evaluate.answer(alloc, files),
         Command::Gas(gas) => gas.answer(alloc, files),
         Command::Show(show) => show.answer(alloc, files),
         Command::Asm(assemble) => assemble.answer(alloc, files),

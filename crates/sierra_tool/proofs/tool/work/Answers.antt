@@ -29,7 +29,7 @@ returns-in-Ok-clause-tool g c =
     let files = g.F.Files.view in
     let out = g.S.Sink.view in
     let works = c.in-Ok.ensures in
-    (Some c.in-Some.command, c.in-Some.ensures, delivers_answer (files c.args.files.now) (files c.answer.new.files) (out c.args.out.now) (out c.deliver.new.out) c.in-Some.command works.readings c.in-Ok.answer c.deliver.result works.given works.outcome c.deliver.ensures)
+    (Some c.in-Some.command, c.in-Some.ensures, delivers_answer c.known.ensures (files c.args.files.now) (files c.answer.new.files) (out c.args.out.now) (out c.deliver.new.out) c.in-Some.command works.readings c.in-Ok.answer c.deliver.result works.given works.outcome c.deliver.ensures)
 
 -- .. or the refusal, ..
 pub returns-in-Err-Refused-clause-tool : goal.returns-in-Err-Refused-clause-tool
@@ -38,7 +38,7 @@ returns-in-Err-Refused-clause-tool g c =
     let out = g.S.Sink.view in
     let works = c.in-Err-Refused.ensures in
     let caused = subst (Stops (IsCaused (files c.args.files.now) (files c.answer.new.files) (Some c.in-Some.command) works.readings) (MayHaveFirst (files c.args.files.now).contents (Some c.in-Some.command))) c.in-Err-Refused.field-0-is works.outcome in
-    (Some c.in-Some.command, c.in-Some.ensures, delivers_answer (files c.args.files.now) (files c.answer.new.files) (out c.args.out.now) (out c.deliver-in-Err-Refused.new.out) c.in-Some.command works.readings c.in-Err-Refused.answer c.deliver-in-Err-Refused.result works.given caused c.deliver-in-Err-Refused.ensures)
+    (Some c.in-Some.command, c.in-Some.ensures, delivers_answer c.known.ensures (files c.args.files.now) (files c.answer.new.files) (out c.args.out.now) (out c.deliver-in-Err-Refused.new.out) c.in-Some.command works.readings c.in-Err-Refused.answer c.deliver-in-Err-Refused.result works.given caused c.deliver-in-Err-Refused.ensures)
 
 -- .. or there was no memory, and nothing was written
 pub returns-in-Err-OutOfMemory-clause-tool : goal.returns-in-Err-OutOfMemory-clause-tool
