@@ -40,14 +40,13 @@ fn one_branch(alloc: Global, rest: &mut &[u8]) -> Result<Branch, Stop<()>>
 fn branches_behind(alloc: Global, rest: &mut &[u8], first: Branch) -> Result<List<Branch>, Stop<()>>
     ensures { Gives (λ branches. branches) result rest.new.now (behind_items_at (done tt) 125 (branch_at standard) (first ∷ []) rest.old.now) }
 {
-    let mut branches = Vec::new(alloc);
-    branches.push(first)?;
+    let mut branches = List::one(first);
     while !is_next(rest, b'}') {
         let next = one_branch(alloc, rest)?;
-        branches.push(next)?;
+        branches.push(alloc, next)?;
     }
     mark(rest, b"}")?;
-    Ok(List::new(branches))
+    Ok(branches)
 }
 
 /// The branches of a statement: `->` and results, or branches in `{` and `}`.
@@ -58,12 +57,10 @@ pub fn branches(alloc: Global, rest: &mut &[u8]) -> Result<List<Branch>, Stop<()
     if is_next(rest, b'-') {
         mark(rest, b"->")?;
         let results = vars(alloc, rest)?;
-        let mut branches = Vec::with_capacity(alloc, 1)?;
-        branches.push(Branch {
+        Ok(List::one(Branch {
             target: Target::Fallthrough,
             results,
-        })?;
-        Ok(List::new(branches))
+        }))
     } else {
         mark(rest, b"{")?;
         let first = one_branch(alloc, rest)?;

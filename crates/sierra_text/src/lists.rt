@@ -39,14 +39,13 @@ fn items_behind<T: Item>(
     requires { TakeBytes T.reader }
     ensures { Gives (λ items. items) result rest.new.now (behind_items_at comma_at close T.reader (first ∷ []) rest.old.now) }
 {
-    let mut items = Vec::new(alloc);
-    items.push(first)?;
+    let mut items = List::one(first);
     while !is_next(rest, close) {
         let next = next_item(alloc, rest)?;
-        items.push(next)?;
+        items.push(alloc, next)?;
     }
     mark(rest, &[close])?;
-    Ok(List::new(items))
+    Ok(items)
 }
 
 /// One item or more, up to the byte that closes the list.

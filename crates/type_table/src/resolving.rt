@@ -65,10 +65,11 @@ pub(crate) fn generics(
 ) -> Result<Vec<Option<Generic>>, AllocError>
     ensures { IfOk result (λ generics. generics.items ≡ map (λ d. generic_named d.generic) declarations.now) }
 {
-    declarations
-        .iter()
-        .map(|declaration| generic_named(declaration.generic.bytes()))
-        .collect(alloc)
+    let mut generics = Vec::with_capacity(alloc, declarations.len())?;
+    for declaration in declarations {
+        generics.push(generic_named(declaration.generic.bytes()))?;
+    }
+    Ok(generics)
 }
 
 /// The first of the arguments that is a type which isn't declared.
