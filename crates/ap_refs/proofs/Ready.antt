@@ -1,6 +1,6 @@
 -- What is known of a libfunc's statement when its turn comes, and when it passes.
 use Rattle.std.proofs.Common.{◌≡◌, ℕ, zero, suc, ◌+◌, ◌*◌, ◌^◌, ◌<◌, ◌≤◌, ℤ, ◌≤ℤ◌, get_or, List, [], ◌∷◌, length, map, Option, Some, None, IfSome, refl, sym, ap, subst, ◌∙◌, arith, inl, inr, ◌⊎◌}
-use Rattle.std.specs.List.{slice_get, slice_index_or, All, AllZip}
+use Rattle.std.specs.List.{slice_get, All, AllZip}
 use Rattle.std.specs.Option.{option_and_then, unwrap_or}
 use Rattle.std.proofs.lemmas.Int.{ints}
 use Rattle.std.proofs.lemmas.List.Elements.{All-nil, All-cons, All-head, All-tail, All-weaker}
@@ -155,12 +155,6 @@ can_begin p t sigs libfuncs ready s id args bs place sig rest here known valid l
       bounded = bounded;
       within = subst (AreWithin widest) (sym left) (taken_of (λ (x : Argument). All (IsWithin widest) x.1) args place.cells (held_wider (reach_of n) widest (omega (arith, below, small)) (omega arith) place.cells bounded.cells));
     }
-
--- a single argument is the first, and what is left is held without it
-pub one_left : (args : List ℕ) (held cells : Held Cells) → 1 ≤ length args → length args < 2 → held ≡ cells → (taken_out (slice_index_or args 0 0) held).1 ≡ (taken args cells).1
-one_left [] held cells some one is = absurd (omega (arith, some))
-one_left (v ∷ []) held cells some one is = ap (λ h. (taken_out v h).1) is
-one_left (v ∷ w ∷ ws) held cells some one is = absurd (omega (arith, one))
 
 pub placed_of : (t : TypesView) (sig : Sig) → IsTable t → IsSignature t sig → IsPlaced t sig.libfunc
 placed_of t sig kept signature = written-placed t kept signature.0.generic signature.0.args sig.libfunc signature.1.written

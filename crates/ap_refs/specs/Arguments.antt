@@ -1,5 +1,5 @@
 -- The cells of a statement's arguments, and what is asked of them.
-use Rattle.std.specs.Prelude.{ℕ, ◌-◌, ◌+◌, ◌^◌, pos, ◌-ℤ◌, int_le, Bool, true, false, ◌&&◌, List, [], ◌∷◌, ◌++◌, length, map, Option, Some, None, if◌then◌else◌}
+use Rattle.std.specs.Prelude.{ℕ, ◌-◌, ◌+◌, ◌^◌, pos, ◌-ℤ◌, int_le, ◌==◌, Bool, true, false, ◌&&◌, List, [], ◌∷◌, ◌++◌, length, map, Option, Some, None, if◌then◌else◌}
 use Rattle.std.specs.Ordering.{int_eq}
 use Rattle.std.specs.Option.{unwrap_or}
 use Rattle.std.specs.List.{list_all, range_with_len}
@@ -28,6 +28,11 @@ Argument = ℕ × Cells
 -- held.
 abbrev pub taken_out : ℕ → Held Cells → Cells × Held Cells
 taken_out v held = unwrap_or (take v held) ([], held)
+
+-- what is held without a variable, pair by pair
+abbrev pub without : ℕ → Held Cells → Held Cells
+without v [] = []
+without v (x ∷ xs) = if v == x.0 then without v xs else x ∷ without v xs
 
 -- the arguments with their cells, taken one after another, and what is held without them
 abbrev pub taken : List ℕ → Held Cells → List Argument × Held Cells

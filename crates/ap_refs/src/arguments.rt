@@ -1,6 +1,6 @@
 //! The arguments of a statement: they are taken out of what is held, and their cells are looked at.
 
-ghost use Rattle.std.specs.Prelude.{◌≡◌, ◌<◌, ◌^◌, ◌++◌, ◌∷◌, [], length, pos, ◌-ℤ◌, IfOk, OnOk};
+ghost use Rattle.std.specs.Prelude.{◌≡◌, ◌<◌, ◌^◌, ◌++◌, ◌∷◌, [], List, length, pos, ◌-ℤ◌, IfOk, IfSome, OnOk};
 ghost use Rattle.std.specs.List.{list_all};
 ghost use Rattle.cell_terms.specs.Resolving.{argument};
 ghost use Rattle.cost_table.specs.Marks as marking;
@@ -9,17 +9,63 @@ ghost use Rattle.ap_refs.specs.Arguments as arguments;
 use crate::cells::Cells;
 use casm_word::{At, CellExpr, Reg, Side};
 use cost_table::Mark;
-use held_list::Held;
+use held_list::{Held, HeldMap, HeldSteps, MANY};
 use std::alloc::{AllocError, Global};
+use std::mem;
 
 /// Takes a variable out, and gives its cells.
-pub(crate) fn take_out(alloc: Global, variable: u64, held: &mut Held<Cells>) -> Cells
-    ensures { arguments.taken_out variable held.old ≡ (result, held.new) }
+fn take_out<H: HeldSteps<Cells>>(alloc: Global, variable: u64, held: &mut H) -> Cells
+    ensures { arguments.taken_out variable (H.held held.old) ≡ (result, H.held held.new) }
 {
     match held.take(variable) {
         Some(cells) => cells,
         None => Cells::new(alloc),
     }
+}
+
+/// The pair of a variable, if it is held.
+#[tactic(auto, using(crate::proofs::Left::pair_out))]
+pub(crate) fn pair_of(variable: u64, held: &Held<Cells>) -> Option<&(u64, Cells)>
+    ensures { IfSome result (λ pair. pair.now ≡ (variable, (arguments.taken_out variable held.now).0)) }
+{
+    let mut items = held.items();
+    while let [pair, later @ ..] = items {
+        if variable == pair.0 {
+            return Some(pair);
+        }
+        items = later;
+    }
+    None
+}
+
+/// Adds a copy of a pair at the end, if it is another variable's.
+fn keep_other(
+    variable: u64,
+    pair: &(u64, Cells),
+    pairs: &mut Vec<(u64, Cells)>,
+) -> Result<(), AllocError>
+    ensures { (later : List arguments.Argument) → OnOk result (pairs.new.items ++ arguments.without variable later ≡ pairs.old.items ++ arguments.without variable (pair.now ∷ later)) }
+{
+    if variable == pair.0 {
+        return Ok(());
+    }
+    keep(pairs, (pair.0, pair.1.clone()?))
+}
+
+/// What is held without a variable.
+pub(crate) fn left_without(
+    alloc: Global,
+    variable: u64,
+    held: &Held<Cells>,
+) -> Result<Held<Cells>, AllocError>
+    ensures { IfOk result (λ left. left ≡ (arguments.taken_out variable held.now).1) }
+{
+    let items = held.items();
+    let mut pairs = Vec::with_capacity(alloc, items.len())?;
+    for pair in items {
+        keep_other(variable, pair, &mut pairs)?;
+    }
+    Ok(Held::from_rising(pairs))
 }
 
 /// Takes variables out, one after another, and gives them with their cells.
@@ -29,6 +75,23 @@ pub(crate) fn take_all(
     held: &mut Held<Cells>,
 ) -> Result<Vec<(u64, Cells)>, AllocError>
     ensures { IfOk result (λ args. arguments.taken variables.now held.old ≡ (args.items, held.new)) }
+{
+    if variables.len() < MANY {
+        return take_each(alloc, variables, held);
+    }
+    let mut map = HeldMap::of(alloc, mem::replace(held, Held::new(alloc)))?;
+    let args = take_each(alloc, variables, &mut map)?;
+    *held = map.into_held(alloc)?;
+    Ok(args)
+}
+
+/// The same, on a list or on a map.
+fn take_each<H: HeldSteps<Cells>>(
+    alloc: Global,
+    variables: &[u64],
+    held: &mut H,
+) -> Result<Vec<(u64, Cells)>, AllocError>
+    ensures { IfOk result (λ args. arguments.taken variables.now (H.held held.old) ≡ (args.items, H.held held.new)) }
 {
     let mut args = Vec::with_capacity(alloc, variables.len())?;
     let mut variables = variables;

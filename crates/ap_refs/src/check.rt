@@ -12,8 +12,8 @@ ghost use Rattle.ap_refs.specs.Prepared.{IsTypedProgram};
 
 use crate::fault::RefFault;
 use crate::listed::Places;
-use crate::moves::count_cells;
 use crate::placing::Placing;
+use cost_table::cells_of;
 use libfunc_registry::Sig;
 use linear_check::Envs;
 use sierra_types::Program;
@@ -71,7 +71,7 @@ fn check_cells(types: &Types, list: &[TypeId]) -> Result<(), AllocError>
     requires { All (IsBelow types.now) list.now }
     ensures { IfOk result (λ _. cells_of (trees_of types.now list.now) < most_cells) }
 {
-    match count_cells(types, list) {
+    match cells_of(types, list) {
         Some(_) => Ok(()),
         None => Err(AllocError),
     }

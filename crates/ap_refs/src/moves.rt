@@ -19,16 +19,13 @@ use crate::cells::Cells;
 use crate::place::{Locals, Place};
 use casm_word::{At, CellExpr, Reg};
 use cell_terms::lowered;
-use cost_table::{ApChange, cost};
-use held_list::{AddFault, Held};
+use cost_table::{ApChange, cells_of, cost};
+use held_list::{AddFault, Held, HeldMap, HeldSteps, MANY};
 use libfunc_registry::{Libfunc, Sig};
 use sierra_types::Name;
 use std::alloc::{AllocError, Global};
-use std::slice;
+use std::{mem, slice};
 use type_table::{TypeId, Types};
-
-/// More cells than any memory has.
-const TOO_MANY: u64 = 1 << 62;
 
 /// The number of cells of a value.
 pub(crate) fn size(types: &Types, t: TypeId) -> u32
@@ -36,21 +33,6 @@ pub(crate) fn size(types: &Types, t: TypeId) -> u32
     ensures { result ≡ size_of types.now t }
 {
     types.info(t).size
-}
-
-/// The number of cells that values of these types take together, if so many can be stored.
-pub(crate) fn count_cells(types: &Types, list: &[TypeId]) -> Option<u64>
-    requires { All (IsBelow types.now) list.now }
-    ensures { IfSome result (λ cells. (cells ≡ cells_of (trees_of types.now list.now)) × (cells < most_cells)) }
-{
-    let mut cells: u64 = 0;
-    for t in list {
-        if cells >= TOO_MANY {
-            return None;
-        }
-        cells += u64::from(size(types, *t));
-    }
-    if cells < TOO_MANY { Some(cells) } else { None }
 }
 
 /// How far a branch moves ap, and none where nobody knows.
@@ -65,6 +47,9 @@ pub(crate) fn change(types: &Types, sig: &Sig, amount: u64, branch: usize) -> Op
         Libfunc::DisableApTracking => None,
         Libfunc::StoreTemp(t) => Some(u64::from(size(types, t))),
         Libfunc::BranchAlign => Some(0),
+        Libfunc::Jump => Some(0),
+        Libfunc::IsZero(_) => Some(0),
+        Libfunc::UnwrapNonZero(_) => Some(0),
         Libfunc::Dup(_) => Some(0),
         Libfunc::Drop(_) => Some(0),
         _ => match cost(types, sig, branch).ap {
@@ -145,8 +130,8 @@ fn lower_each(alloc: Global, by: u64, held: &Held<Cells>) -> Result<Held<Cells>,
 }
 
 /// Adds a variable, if it isn't held.
-fn add_one(variable: u64, cells: Cells, held: &mut Held<Cells>) -> Result<(), AllocError>
-    ensures { OnOk result (held.new ≡ moving.added_one variable cells held.old) }
+fn add_one<H: HeldSteps<Cells>>(variable: u64, cells: Cells, held: &mut H) -> Result<(), AllocError>
+    ensures { OnOk result (H.held held.new ≡ moving.added_one variable cells (H.held held.old)) }
 {
     match held.add(variable, cells) {
         Ok(()) => Ok(()),
@@ -166,6 +151,27 @@ pub(crate) fn add_all(
 ) -> Result<(), AllocError>
     requires { All (IsBelow types.now) kinds.now }
     ensures { OnOk result (held.new ≡ moving.added types.now variables.now kinds.now cells.now held.old) }
+{
+    if variables.len() < MANY {
+        return add_each(alloc, types, variables, kinds, cells, held);
+    }
+    let mut map = HeldMap::of(alloc, mem::replace(held, Held::new(alloc)))?;
+    add_each(alloc, types, variables, kinds, cells, &mut map)?;
+    *held = map.into_held(alloc)?;
+    Ok(())
+}
+
+/// The same, on a list or on a map.
+fn add_each<H: HeldSteps<Cells>>(
+    alloc: Global,
+    types: &Types,
+    variables: &[u64],
+    kinds: &[TypeId],
+    cells: &[CellExpr],
+    held: &mut H,
+) -> Result<(), AllocError>
+    requires { All (IsBelow types.now) kinds.now }
+    ensures { OnOk result (H.held held.new ≡ moving.added types.now variables.now kinds.now cells.now (H.held held.old)) }
 {
     let (mut variables, mut kinds, mut cells) = (variables, kinds, cells);
     while let [variable, later @ ..] = variables {
@@ -254,7 +260,7 @@ pub(crate) fn beginning(
     requires { All (IsBelow types.now) kinds.now }
     ensures { IfOk result (λ place. place ≡ moving.beginning types.now (map (λ x. x.0) params.now) kinds.now) }
 {
-    let Some(count) = count_cells(types, kinds) else {
+    let Some(count) = cells_of(types, kinds) else {
         return Err(AllocError);
     };
     let variables = variables_of(alloc, params)?;

@@ -238,15 +238,46 @@ impl Placing<'_> {
         let Some(sig) = self.sig_of(libfunc) else {
             return Ok(self.stop(None));
         };
-        let mut rest = moves::copy(&place.cells)?;
-        if let [only] = args {
-            return self.pass_one(statement, sig, branches, place, *only, rest);
-        }
-        let args = arguments::take_all(self.alloc, args, &mut rest)?;
-        self.pass(statement, sig, branches, place, &args, rest)
+        self.pass_args(statement, sig, branches, place, args)
     }
 
-    /// The same, where this variable is the one argument and isn't taken yet. It needs no list of arguments.
+    /// The same, by the libfunc's signature. No argument and a single one need no list.
+    fn pass_args(
+        &self,
+        statement: usize,
+        sig: &Sig,
+        branches: &[Branch],
+        place: &Place,
+        args: &[u64],
+    ) -> Result<Branches<Place, RefFault>, AllocError>
+        requires begin { CanBegin self.now.types.now sig.now branches.now place.now (arguments_of.taken args.now place.now.cells).1 }
+        requires here { statement + 1 < 2 ^ 64 }
+        ensures { IfOk result (λ parts. AreFirst parts.given.items parts.fault (flow.taken_parts self.now.types.now statement sig.now place.now branches.now (arguments_of.taken args.now place.now.cells))) }
+    {
+        match args {
+            [] => self.pass_none(statement, sig, branches, place),
+            [variable] => self.pass_one(statement, sig, branches, place, *variable),
+            _ => self.pass_list(statement, sig, branches, place, args),
+        }
+    }
+
+    /// The same, without arguments.
+    fn pass_none(
+        &self,
+        statement: usize,
+        sig: &Sig,
+        branches: &[Branch],
+        place: &Place,
+    ) -> Result<Branches<Place, RefFault>, AllocError>
+        requires begin { CanBegin self.now.types.now sig.now branches.now place.now place.now.cells }
+        requires here { statement + 1 < 2 ^ 64 }
+        ensures { IfOk result (λ parts. AreFirst parts.given.items parts.fault (flow.taken_parts self.now.types.now statement sig.now place.now branches.now ([], place.now.cells))) }
+    {
+        let rest = moves::copy(&place.cells)?;
+        self.pass_cells(statement, sig, branches, place, &[], &[], rest)
+    }
+
+    /// The same, where this variable is the one argument. Its cells are read where they are held.
     fn pass_one(
         &self,
         statement: usize,
@@ -254,26 +285,42 @@ impl Placing<'_> {
         branches: &[Branch],
         place: &Place,
         variable: u64,
-        held: Held<Cells>,
     ) -> Result<Branches<Place, RefFault>, AllocError>
-        requires begin { CanBegin self.now.types.now sig.now branches.now place.now (arguments_of.taken_out variable held).1 }
+        requires begin { CanBegin self.now.types.now sig.now branches.now place.now (arguments_of.taken (variable ∷ []) place.now.cells).1 }
         requires here { statement + 1 < 2 ^ 64 }
-        ensures { IfOk result (λ parts. AreFirst parts.given.items parts.fault (flow.taken_parts self.now.types.now statement sig.now place.now branches.now (arguments_of.taken (variable ∷ []) held))) }
+        ensures { IfOk result (λ parts. AreFirst parts.given.items parts.fault (flow.taken_parts self.now.types.now statement sig.now place.now branches.now (arguments_of.taken (variable ∷ []) place.now.cells))) }
     {
-        let mut rest = held;
-        let arg = (
-            variable,
-            arguments::take_out(self.alloc, variable, &mut rest),
-        );
+        let Some(arg) = arguments::pair_of(variable, &place.cells) else {
+            return self.pass_list(statement, sig, branches, place, &[variable]);
+        };
+        let rest = arguments::left_without(self.alloc, variable, &place.cells)?;
         self.pass_cells(
             statement,
             sig,
             branches,
             place,
-            slice::from_ref(&arg),
+            slice::from_ref(arg),
             arg.1.items(),
             rest,
         )
+    }
+
+    /// The same, where these variables are the arguments.
+    fn pass_list(
+        &self,
+        statement: usize,
+        sig: &Sig,
+        branches: &[Branch],
+        place: &Place,
+        variables: &[u64],
+    ) -> Result<Branches<Place, RefFault>, AllocError>
+        requires begin { CanBegin self.now.types.now sig.now branches.now place.now (arguments_of.taken variables.now place.now.cells).1 }
+        requires here { statement + 1 < 2 ^ 64 }
+        ensures { IfOk result (λ parts. AreFirst parts.given.items parts.fault (flow.taken_parts self.now.types.now statement sig.now place.now branches.now (arguments_of.taken variables.now place.now.cells))) }
+    {
+        let mut rest = moves::copy(&place.cells)?;
+        let args = arguments::take_all(self.alloc, variables, &mut rest)?;
+        self.pass(statement, sig, branches, place, &args, rest)
     }
 
     /// What a libfunc's statement gives its branches, or its fault, where its arguments are taken and this rest is held.

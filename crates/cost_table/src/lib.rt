@@ -30,3 +30,4 @@ pub use laws::{
     results_are_in_field, results_have_their_cells,
 };
 pub use mark::Mark;
+pub use sizes::cells_of;

@@ -1,6 +1,6 @@
 //! Sizes of types, and what a signature says of positions.
 
-ghost use Rattle.std.specs.Prelude.{◌≡◌, ◌<◌, ◌≤◌, ◌^◌, length, IfSome};
+ghost use Rattle.std.specs.Prelude.{◌≡◌, ◌<◌, ◌≤◌, ◌^◌, length, IfSome, IfNone};
 ghost use Rattle.std.specs.List.{All};
 ghost use Rattle.type_trees.specs.Ty as ty;
 ghost use Rattle.type_table.specs.Trees.{parts};
@@ -54,9 +54,10 @@ pub(crate) fn part_count(types: &Types, t: TypeId) -> u32
 }
 
 /// The number of cells that values of these types take together, if it is below `2^62`.
-pub(crate) fn cells_of(types: &Types, list: &[TypeId]) -> Option<u64>
+pub fn cells_of(types: &Types, list: &[TypeId]) -> Option<u64>
     requires { All (IsBelow types.now) list.now }
-    ensures { IfSome result (λ cells. (cells ≡ cells_of (trees_of types.now list.now)) × (cells < 2 ^ 62)) }
+    ensures few { IfSome result (λ cells. (cells ≡ cells_of (trees_of types.now list.now)) × (cells < 2 ^ 62)) }
+    ensures many { IfNone result (2 ^ 62 ≤ cells_of (trees_of types.now list.now)) }
 {
     let mut cells: u64 = 0;
     for t in list {

@@ -4,3 +4,4 @@ pub mod Placing
 pub mod Rising
 pub mod Steps
 pub mod Totals
+pub mod Maps

@@ -79,6 +79,14 @@ impl<A> Held<A> {
         &self.pairs
     }
 
+    /// The variables with their payloads, as a vector. It takes no memory.
+    pub fn into_pairs(self) -> Vec<(u64, A)>
+        ensures items { result.items ≡ self }
+        ensures rising { IsRising self }
+    {
+        self.pairs
+    }
+
     /// The payload of a variable, if it is held.
     pub fn get(&self, variable: u64) -> Option<&A>
         ensures { option_copied result ≡ get variable self.now }

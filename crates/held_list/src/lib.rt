@@ -6,6 +6,8 @@
 
 mod held;
 mod laws;
+mod map;
 
 pub use held::{AddFault, Held};
 pub use laws::{differ_equal, differ_least};
+pub use map::{HeldMap, HeldSteps, MANY};

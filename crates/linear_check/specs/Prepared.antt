@@ -36,9 +36,9 @@ abbrev pub AnswersExactly : {A : Type 0} → Result A LinearFault → Result (Un
 AnswersExactly work (Ok done) a = work ≡ Ok a
 AnswersExactly work (Err fault) a = work ≡ Err fault
 
--- The work gives no part, or answers its fault.
+-- The work gives no part, or answers its fault, or memory ran out.
 abbrev pub AnswersNothing : {A : Type 0} → Result (List A) LinearFault → Result (Unit {0}) LinearFault → Type 0
-AnswersNothing work answer = AnswersExactly work answer []
+AnswersNothing work answer = Answers work answer []
 
 -- The work answers what it gives, or its fault, or memory ran out.
 abbrev pub AnswersPart : {A : Type 0} → Result A LinearFault → Result A LinearFault → Type 0

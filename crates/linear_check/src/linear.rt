@@ -1,6 +1,6 @@
 //! The rules of the linear check, as the walk asks for them.
 
-ghost use Rattle.std.specs.Prelude.{◌≡◌, ◌<◌, ◌+◌, ◌^◌, ℕ, length, Some, Err, IfOk, IfErr, IsTrue, nat_lt, []};
+ghost use Rattle.std.specs.Prelude.{◌≡◌, ◌≢◌, ◌<◌, ◌+◌, ◌^◌, ℕ, length, Some, None, Err, IfOk, IfErr, IsTrue, nat_lt, [], ◌∷◌, false};
 ghost use Rattle.std.specs.List.{slice_get, list_all};
 ghost use Rattle.std.specs.Option.{option_copied};
 ghost use Rattle.held_list.specs.Held.{Held as HeldTypes};
@@ -115,11 +115,11 @@ impl Linear<'_> {
         if args.len() != results.len() {
             return Err(LinearFault::Shape { statement });
         }
-        steps::take_all(statement, args, results, held)?;
+        steps::take_all(self.alloc, statement, args, results, held)?;
         steps::nothing_left(statement, held)
     }
 
-    /// What one branch gives its target.
+    /// What one branch gives its target. Other branches need what is left too.
     fn give(
         &self,
         statement: usize,
@@ -133,8 +133,32 @@ impl Linear<'_> {
         requires inside { statements.target_of statement branch.now.target < length self.now.program.now.statements }
         ensures { AnswersPart (flow.branch_part self.now.program.now self.now.sigs.now statement several rest.now branch.now types.now) result }
     {
-        let mut held = rest.copy()?;
-        steps::add_all(statement as u64, branch.results.items(), types, &mut held)?;
+        let rest = rest.copy()?;
+        self.give_left(statement, several, rest, branch, types)
+    }
+
+    /// The same, where no other branch needs what is left.
+    fn give_left(
+        &self,
+        statement: usize,
+        several: bool,
+        rest: Held<TypeId>,
+        branch: &Branch,
+        types: &[TypeId],
+    ) -> Result<(usize, Held<TypeId>), LinearFault>
+        requires prepared { IsPrepared self.now.program.now self.now.libfuncs self.now.predecessors.items }
+        requires here { statement < length self.now.program.now.statements }
+        requires inside { statements.target_of statement branch.now.target < length self.now.program.now.statements }
+        ensures { AnswersPart (flow.branch_part self.now.program.now self.now.sigs.now statement several rest branch.now types.now) result }
+    {
+        let mut held = rest;
+        steps::add_all(
+            self.alloc,
+            statement as u64,
+            branch.results.items(),
+            types,
+            &mut held,
+        )?;
         let target = steps::target_of(statement, branch.target) as usize;
         self.check_align(statement as u64, several, target)?;
         Ok((target, held))
@@ -152,7 +176,7 @@ impl Linear<'_> {
         requires prepared { IsPrepared self.now.program.now self.now.libfuncs self.now.predecessors.items }
         requires here { statement < length self.now.program.now.statements }
         ensures passes { IfOk result (λ sig. Begins self.now.program.now self.now.sigs.now statement libfunc.now args.now branches.now held.old sig.now held.new) }
-        ensures fails { IfErr result (λ fault. flow.invoke_parts self.now.program.now self.now.sigs.now statement libfunc.now args.now branches.now held.old ≡ Err fault) }
+        ensures fails { IfErr result (λ fault. fault ≢ LinearFault.Memory → flow.invoke_parts self.now.program.now self.now.sigs.now statement libfunc.now args.now branches.now held.old ≡ Err fault) }
     {
         let fault = LinearFault::Shape {
             statement: statement as u64,
@@ -169,7 +193,7 @@ impl Linear<'_> {
         ) {
             return Err(fault);
         }
-        match steps::take_all(statement as u64, args, sig.params.items(), held) {
+        match steps::take_all(self.alloc, statement as u64, args, sig.params.items(), held) {
             Ok(()) => Ok(sig),
             Err(fault) => Err(fault),
         }
@@ -208,6 +232,45 @@ impl Linear<'_> {
         Ok(Branches { given, fault: None })
     }
 
+    /// What the one branch of a statement gives, or its fault.
+    fn give_one(
+        &self,
+        statement: usize,
+        rest: Held<TypeId>,
+        branch: &Branch,
+        types: &[TypeId],
+    ) -> Result<Branches<Held<TypeId>, LinearFault>, AllocError>
+        requires prepared { IsPrepared self.now.program.now self.now.libfuncs self.now.predecessors.items }
+        requires here { statement < length self.now.program.now.statements }
+        requires inside { statements.target_of statement branch.now.target < length self.now.program.now.statements }
+        ensures { IfOk result (λ parts. AreFirst parts.given.items parts.fault (flow.branch_part self.now.program.now self.now.sigs.now statement false rest branch.now types.now ∷ [])) }
+    {
+        match self.give_left(statement, false, rest, branch, types) {
+            Ok(part) => self.only(part),
+            Err(fault) => self.stop_by(fault),
+        }
+    }
+
+    /// What all branches of a statement give, up to the first fault. A single one takes what is left as it is.
+    fn give_each(
+        &self,
+        statement: usize,
+        rest: Held<TypeId>,
+        branches: &[Branch],
+        types: &[List<TypeId>],
+    ) -> Result<Branches<Held<TypeId>, LinearFault>, AllocError>
+        requires prepared { IsPrepared self.now.program.now self.now.libfuncs self.now.predecessors.items }
+        requires here { statement < length self.now.program.now.statements }
+        requires counted { IsTrue (flow.counts_agree branches.now types.now) }
+        requires inside { IsTrue (list_all (λ b. nat_lt (statements.target_of statement b.target) (length self.now.program.now.statements)) branches.now) }
+        ensures { IfOk result (λ parts. AreFirst parts.given.items parts.fault (flow.branch_parts self.now.program.now self.now.sigs.now statement (flow.several branches.now) rest branches.now types.now)) }
+    {
+        if let ([branch], [only]) = (branches, types) {
+            return self.give_one(statement, rest, branch, only.items());
+        }
+        self.give_all(statement, &rest, branches, types)
+    }
+
     /// What a libfunc's statement gives its branches, up to the first fault.
     fn invoke(
         &self,
@@ -215,16 +278,59 @@ impl Linear<'_> {
         libfunc: &Name,
         args: &[u64],
         branches: &[Branch],
-        held: &mut Held<TypeId>,
+        held: Held<TypeId>,
     ) -> Result<Branches<Held<TypeId>, LinearFault>, AllocError>
         requires prepared { IsPrepared self.now.program.now self.now.libfuncs self.now.predecessors.items }
         requires here { statement < length self.now.program.now.statements }
-        ensures { IfOk result (λ parts. AreFirst parts.given.items parts.fault (flow.spread (flow.invoke_parts self.now.program.now self.now.sigs.now statement libfunc.now args.now branches.now held.old))) }
+        ensures { IfOk result (λ parts. AreFirst parts.given.items parts.fault (flow.spread (flow.invoke_parts self.now.program.now self.now.sigs.now statement libfunc.now args.now branches.now held))) }
     {
-        match self.begin(statement, libfunc, args, branches, held) {
-            Ok(sig) => self.give_all(statement, held, branches, sig.branches.items()),
-            Err(fault) => Ok(self.stop(Some(fault))),
+        let mut held = held;
+        match self.begin(statement, libfunc, args, branches, &mut held) {
+            Ok(sig) => self.give_each(statement, held, branches, sig.branches.items()),
+            Err(fault) => self.stop_by(fault),
         }
+    }
+
+    /// What one branch gives, and no fault.
+    fn only(
+        &self,
+        part: (usize, Held<TypeId>),
+    ) -> Result<Branches<Held<TypeId>, LinearFault>, AllocError>
+        ensures given { IfOk result (λ parts. parts.given.items ≡ part ∷ []) }
+        ensures fault { IfOk result (λ parts. parts.fault ≡ None) }
+    {
+        let mut given = Vec::with_capacity(self.alloc, 1)?;
+        steps::keep(&mut given, part)?;
+        Ok(Branches { given, fault: None })
+    }
+
+    /// What the end of a function gives: no branch, or its fault.
+    fn end(
+        &self,
+        function: usize,
+        statement: u64,
+        args: &[u64],
+        held: Held<TypeId>,
+    ) -> Result<Branches<Held<TypeId>, LinearFault>, AllocError>
+        ensures { IfOk result (λ parts. AreFirst parts.given.items parts.fault (flow.spread (flow.return_parts statement args.now (statements.result_types self.now.types.now function) held))) }
+    {
+        let mut held = held;
+        match self.check_return(function, statement, args, &mut held) {
+            Ok(()) => Ok(self.stop(None)),
+            Err(fault) => self.stop_by(fault),
+        }
+    }
+
+    /// No branch, with the fault of the statement, unless memory ran out.
+    fn stop_by(&self, fault: LinearFault) -> Result<Branches<Held<TypeId>, LinearFault>, AllocError>
+        ensures given { IfOk result (λ parts. parts.given.items ≡ []) }
+        ensures fault { IfOk result (λ parts. parts.fault ≡ Some fault) }
+        ensures other { IfOk result (λ _. fault ≢ LinearFault.Memory) }
+    {
+        if fault.is_memory() {
+            return Err(AllocError);
+        }
+        Ok(self.stop(Some(fault)))
     }
 
     /// No branch, with the fault of the statement before its branches if it has one.
@@ -278,23 +384,14 @@ impl WalkRules for Linear<'_> {
         statement: usize,
         env: &Held<TypeId>,
     ) -> Result<Branches<Held<TypeId>, LinearFault>, AllocError> {
-        let mut held = env.copy()?;
+        let held = env.copy()?;
         match &self.program.statements.items()[statement] {
             Statement::Invoke {
                 libfunc,
                 args,
                 branches,
-            } => self.invoke(
-                statement,
-                libfunc,
-                args.items(),
-                branches.items(),
-                &mut held,
-            ),
-            Statement::Return { args } => {
-                let ended = self.check_return(function, statement as u64, args.items(), &mut held);
-                Ok(self.stop(ended.err()))
-            }
+            } => self.invoke(statement, libfunc, args.items(), branches.items(), held),
+            Statement::Return { args } => self.end(function, statement as u64, args.items(), held),
         }
     }
 

@@ -7,20 +7,40 @@ ghost use Rattle.linear_check.specs.Statements as statements;
 ghost use Rattle.linear_check.specs.Prepared.{Answers, AnswersExactly};
 
 use crate::fault::LinearFault;
-use held_list::{AddFault, Held};
+use held_list::{AddFault, Held, HeldMap, HeldSteps, MANY};
 use libfunc_registry::{Libfunc, Sig};
 use sierra_types::{Branch, List, Name, Target};
 use std::alloc::{AllocError, Global};
+use std::mem;
 use type_table::TypeId;
 
 /// Takes variables of these types out, one after another.
 pub(crate) fn take_all(
+    alloc: Global,
     statement: u64,
     variables: &[u64],
     types: &[TypeId],
     held: &mut Held<TypeId>,
 ) -> Result<(), LinearFault>
-    ensures { AnswersExactly (flow.taken statement variables.now types.now held.old) result held.new }
+    ensures { Answers (flow.taken statement variables.now types.now held.old) result held.new }
+{
+    if variables.len() < MANY {
+        return take_each(statement, variables, types, held);
+    }
+    let mut map = HeldMap::of(alloc, mem::replace(held, Held::new(alloc)))?;
+    take_each(statement, variables, types, &mut map)?;
+    *held = map.into_held(alloc)?;
+    Ok(())
+}
+
+/// The same, on a list or on a map.
+fn take_each<H: HeldSteps<TypeId>>(
+    statement: u64,
+    variables: &[u64],
+    types: &[TypeId],
+    held: &mut H,
+) -> Result<(), LinearFault>
+    ensures { AnswersExactly (flow.taken statement variables.now types.now (H.held held.old)) result (H.held held.new) }
 {
     let (mut variables, mut types) = (variables, types);
     while let [variable, later @ ..] = variables {
@@ -59,12 +79,31 @@ pub(crate) fn nothing_left(statement: u64, held: &Held<TypeId>) -> Result<(), Li
 
 /// Adds variables of these types, one after another.
 pub(crate) fn add_all(
+    alloc: Global,
     statement: u64,
     variables: &[u64],
     types: &[TypeId],
     held: &mut Held<TypeId>,
 ) -> Result<(), LinearFault>
     ensures { Answers (flow.added statement variables.now types.now held.old) result held.new }
+{
+    if variables.len() < MANY {
+        return add_each(statement, variables, types, held);
+    }
+    let mut map = HeldMap::of(alloc, mem::replace(held, Held::new(alloc)))?;
+    add_each(statement, variables, types, &mut map)?;
+    *held = map.into_held(alloc)?;
+    Ok(())
+}
+
+/// The same, on a list or on a map.
+fn add_each<H: HeldSteps<TypeId>>(
+    statement: u64,
+    variables: &[u64],
+    types: &[TypeId],
+    held: &mut H,
+) -> Result<(), LinearFault>
+    ensures { Answers (flow.added statement variables.now types.now (H.held held.old)) result (H.held held.new) }
 {
     let (mut variables, mut types) = (variables, types);
     while let [variable, later @ ..] = variables {
@@ -94,10 +133,27 @@ pub(crate) fn parameters(
     ensures { IfOk result (λ held. held ≡ statements.held_with [] (map (λ x. x.0) params.now) types.now) }
 {
     let mut held = Held::new(alloc);
+    if params.len() < MANY {
+        hold_each(params, types, &mut held)?;
+        return Ok(held);
+    }
+    let mut map = HeldMap::of(alloc, held)?;
+    hold_each(params, types, &mut map)?;
+    map.into_held(alloc)
+}
+
+/// Adds parameters, on a list or on a map. Of two of one variable the first counts.
+fn hold_each<H: HeldSteps<TypeId>>(
+    params: &[(u64, Name)],
+    types: &[TypeId],
+    held: &mut H,
+) -> Result<(), AllocError>
+    ensures { OnOk result (H.held held.new ≡ statements.held_with (H.held held.old) (map (λ x. x.0) params.now) types.now) }
+{
     let (mut params, mut types) = (params, types);
     while let [param, later @ ..] = params {
         let [given, others @ ..] = types else {
-            return Ok(held);
+            return Ok(());
         };
         match held.add(param.0, *given) {
             Ok(()) | Err(AddFault::Taken) => {}
@@ -105,7 +161,7 @@ pub(crate) fn parameters(
         }
         (params, types) = (later, others);
     }
-    Ok(held)
+    Ok(())
 }
 
 /// Where a branch of a statement leads.

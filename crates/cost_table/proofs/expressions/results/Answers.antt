@@ -22,6 +22,6 @@ returns c =
     let types = c.args.types.now in
     let fam = fam_of types c.args.sig.now.libfunc in
     let found = branch_found types c.args.sig.now c.args.branch _ _ c.items.ensures c.index-items-branch.is c.requires.signature c.requires.branch in
-    let count_is = c.in-Some.ensures.0 ∙ ap (λ ts. cells_of (trees_of types ts)) c.items-2.ensures ∙ ap cells_of (trees_are types _ _ found) in
+    let count_is = c.in-Some.ensures.few.0 ∙ ap (λ ts. cells_of (trees_of types ts)) c.items-2.ensures ∙ ap cells_of (trees_are types _ _ found) in
     made c.args.args.now c.args.amount fam c.args.branch c.row_of-row.result _ c.in-Some.count c.moved.result c.new-cells.result.items c.push_parts.new.cells.items
     c.row_of-row.ensures count_is c.parts_of-parts.ensures.terms c.moved.ensures c.new-cells.ensures.items c.in_ok-push_parts.ensures
