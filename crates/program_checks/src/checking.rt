@@ -9,6 +9,7 @@ ghost use Rattle.ap_refs.specs.Prepared.{IsTypedProgram};
 ghost use Rattle.ap_refs.specs.Placed.{Placed, PlacedList};
 ghost use Rattle.gas_solver.specs.Plans.{IsPlan};
 ghost use Rattle.program_checks.specs.Checks.{Finds, Refused, accepted_by};
+ghost use Rattle.program_checks.specs.Parts.{IsPlanned, IsStated};
 ghost use Rattle.program_checks.specs.declared.refusal.Refusal.TheVariants as refusals;
 
 use crate::refusal::Refusal;
@@ -38,6 +39,25 @@ pub struct Checked {
     pub plan: GasPlan,
 }
 
+/// What is found of a program behind its types.
+struct Coded {
+    signatures: List<Sig>,
+    stated: Stated,
+}
+
+/// What is found behind the signatures.
+struct Stated {
+    envs: Envs,
+    planned: Planned,
+}
+
+/// What is found behind the typed variables.
+struct Planned {
+    main: usize,
+    places: Places,
+    plan: GasPlan,
+}
+
 impl Checked {
     /// The program of which it was found, with it, but for the places.
     #[tactic(auto, using(crate::proofs::Accepting::found_accepted))]
@@ -63,14 +83,9 @@ pub fn check(alloc: Global, program: &Program) -> Result<Checked, Refusal>
     ensures refused { IfErr result (λ refusal. refusal ≢ refusals.Memory → Refused program.now refusal) }
 {
     let types = check_types(alloc, program)?;
-    let signatures = check_libfuncs(alloc, program, &types)?;
-    let envs = check_statements(alloc, program, &types, signatures.items())?;
-    let main = match check_entry(program, &types) {
-        Ok(main) => main,
-        Err(fault) => return Err(Refusal::Entry(fault)),
-    };
-    let places = check_places(alloc, program, &types, signatures.items(), &envs)?;
-    let plan = check_gas(alloc, program, &types, signatures.items(), &envs, main)?;
+    let Coded { signatures, stated } = check_code(alloc, program, &types)?;
+    let Stated { envs, planned } = stated;
+    let Planned { main, places, plan } = planned;
     Ok(Checked {
         types,
         signatures,
@@ -79,6 +94,58 @@ pub fn check(alloc: Global, program: &Program) -> Result<Checked, Refusal>
         places,
         plan,
     })
+}
+
+/// What is found behind the types. Each part is looked for by a function of its own, so that what was found before it is let go
+/// at one place.
+fn check_code(alloc: Global, program: &Program, types: &Types) -> Result<Coded, Refusal>
+    requires few { length program.now.statements ≤ 2 ^ 20 }
+    requires types { HasTypes program.now types.now }
+    ensures passes { IfOk result (λ coded. HasSignatures types.now program.now.libfuncs coded.signatures × IsStated program.now types.now coded.signatures coded.stated) }
+    ensures refused { IfErr result (λ refusal. refusal ≢ refusals.Memory → Refused program.now refusal) }
+{
+    let signatures = check_libfuncs(alloc, program, types)?;
+    let stated = check_stated(alloc, program, types, signatures.items())?;
+    Ok(Coded { signatures, stated })
+}
+
+/// What is found behind the signatures.
+fn check_stated(
+    alloc: Global,
+    program: &Program,
+    types: &Types,
+    sigs: &[Sig],
+) -> Result<Stated, Refusal>
+    requires few { length program.now.statements ≤ 2 ^ 20 }
+    requires types { HasTypes program.now types.now }
+    requires signatures { HasSignatures types.now program.now.libfuncs sigs.now }
+    ensures passes { IfOk result (IsStated program.now types.now sigs.now) }
+    ensures refused { IfErr result (λ refusal. refusal ≢ refusals.Memory → Refused program.now refusal) }
+{
+    let envs = check_statements(alloc, program, types, sigs)?;
+    let planned = check_planned(alloc, program, types, sigs, &envs)?;
+    Ok(Stated { envs, planned })
+}
+
+/// What is found behind the typed variables.
+fn check_planned(
+    alloc: Global,
+    program: &Program,
+    types: &Types,
+    sigs: &[Sig],
+    envs: &Envs,
+) -> Result<Planned, Refusal>
+    requires { IsTypedProgram program.now types.now sigs.now envs.now }
+    ensures passes { IfOk result (IsPlanned program.now types.now sigs.now) }
+    ensures refused { IfErr result (λ refusal. refusal ≢ refusals.Memory → Refused program.now refusal) }
+{
+    let main = match check_entry(program, types) {
+        Ok(main) => main,
+        Err(fault) => return Err(Refusal::Entry(fault)),
+    };
+    let places = check_places(alloc, program, types, sigs, envs)?;
+    let plan = check_gas(alloc, program, types, sigs, envs, main)?;
+    Ok(Planned { main, places, plan })
 }
 
 /// The types and functions of a program.
