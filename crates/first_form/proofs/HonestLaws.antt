@@ -7,7 +7,7 @@ use Rattle.std.proofs.lemmas.Option.{slice_get_within}
 use Rattle.std.specs.List.{AllByRecursion}
 use Rattle.felt64.specs.Field.{modulus, sum, difference, product, negative}
 use Rattle.felt64.proofs.FieldLaws.{negative_below}
-use Rattle.run_file.specs.Spelling.{IsCell, IsRun}
+use Rattle.run_file.specs.Spelling.{IsCell, IsRun, listing_spelling, spelling}
 use Rattle.ro_machine.specs.declared.machine.State.{State}
 use Rattle.ro_machine.specs.Step.{Step}
 use Rattle.casm_word.specs.declared.instr.Operand.TheVariants as operand
@@ -263,6 +263,12 @@ module _ (program : Program) (input : Input) where
         some_state = omega arith;
         state_count = omega arith;
       }
+
+  -- the file is short, since the run lists few cells and has few states
+  pub is_short : length (spelling (honest_run program input)) ≤ 2 ^ 24
+  is_short =
+      let entries_are : entries (honest_run program input).memory ≡ cells = entries-from_sorted nat_cmp cells tt in
+      subst (λ (es : List (ℕ × ℕ)). length (listing_spelling (record { rc = range_start; cells = es; states = honest_states })) ≤ 2 ^ 24) (sym entries_are) (omega arith)
 
   -- what is so of each key of a list is so of each key that is found
   abbrev AllKeys : (ℕ → Type 0) → List (ℕ × ℕ) → Type 0

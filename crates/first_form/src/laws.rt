@@ -1,7 +1,7 @@
 //! Laws about the definitions, without code: what every accepted run shows, that such runs exist, and that a run is accepted
 //! or rejected for one fault. Whoever reads the contract of the tool's top call reads them beside it.
 
-ghost use Rattle.std.specs.Prelude.{◌≡◌, ◌⊎◌, ℕ, ◌<◌, ◌≤◌, List, length, Option, Some};
+ghost use Rattle.std.specs.Prelude.{◌≡◌, ◌⊎◌, ℕ, ◌<◌, ◌≤◌, ◌^◌, List, length, Option, Some};
 ghost use Rattle.std.specs.FinMap.{get};
 ghost use Rattle.std.specs.List.{flat_map};
 ghost use Rattle.felt64.specs.Field.{modulus};
@@ -12,7 +12,7 @@ ghost use Rattle.first_form.specs.declared.input.Input.{Input};
 ghost use Rattle.first_form.specs.declared.verdict.Verdict.{Verdict};
 ghost use Rattle.first_form.specs.declared.accepted.CheckFault.{CheckFault};
 ghost use Rattle.run_file.specs.declared.run.Run.{Run};
-ghost use Rattle.run_file.specs.Spelling.{IsRun};
+ghost use Rattle.run_file.specs.Spelling.{IsRun, spelling};
 ghost use Rattle.first_form.specs.Accepted.{Accepts, most_states};
 ghost use Rattle.first_form.specs.Honest.{honest_run, IsNeeded};
 ghost use Rattle.first_form.specs.Meaning.{entry_gas, code_of, instructions_of, parameter_types, arguments_of, Means};
@@ -32,7 +32,7 @@ pub fn accepted_runs_mean()
 {}
 
 /// A run exists: of each program and input of the field the honest run is accepted, and from the gas that the program
-/// needs on it has a verdict. It has a file, from which it is read again. It lists the code, the argument's cell and the
+/// needs on it has a verdict. It has a file, from which it is read again, and which is short enough to be read. It lists the code, the argument's cell and the
 /// cells that its steps read, and no others.
 pub fn honest_runs_are_accepted()
     ensures accepted { (program : Program) (input : Input) → program.constant < modulus → input.argument < modulus →
@@ -41,6 +41,7 @@ pub fn honest_runs_are_accepted()
         entry_gas program ≤ input.gas → (verdict : Verdict) × IsVerdict program input (honest_run program input) verdict }
     ensures spelled { (program : Program) (input : Input) → program.constant < modulus → input.argument < modulus →
         IsRun (honest_run program input) }
+    ensures short { (program : Program) (input : Input) → length (spelling (honest_run program input)) ≤ 2 ^ 24 }
     ensures needed { (program : Program) (input : Input) (at word : ℕ) →
         get (honest_run program input).memory at ≡ Some word →
         IsNeeded (code_of program) (parameter_types program) (get (honest_run program input).memory) (honest_run program input).states at }

@@ -6,7 +6,7 @@ use Rattle.felt64.specs.Field.{modulus}
 use Rattle.first_form.specs.declared.program.Program.{Program}
 use Rattle.first_form.specs.declared.input.Input.{Input}
 use Rattle.first_form.specs.Honest.{honest_run}
-use Rattle.first_form.proofs.HonestLaws.{accepted, shown, is_run}
+use Rattle.first_form.proofs.HonestLaws.{accepted, shown, is_run, is_short}
 use Rattle.run_file.specs.Spelling.{spelling}
 use Rattle.sierra_tool.specs.declared.command.Command.{Command}
 use Rattle.sierra_tool.specs.declared.command.Command.TheVariants as commands
@@ -38,6 +38,7 @@ module _ (before now : FilesView) (out written : SinkView) (execute : Execute) w
         file = spelling (honest_run program input);
         written_whole = whole;
         is_file = (is_run program input constant argument, refl);
+        is_short = is_short program input;
         accepted = accepted program input constant argument;
         verdict = verdict.0;
         is_verdict = verdict.1;
@@ -65,6 +66,7 @@ over_names before out written execute other same w =
       file = w.file;
       written_whole = w.written_whole;
       is_file = w.is_file;
+      is_short = w.is_short;
       accepted = w.accepted;
       verdict = w.verdict;
       is_verdict = w.is_verdict;

@@ -1,5 +1,5 @@
 -- What `run` writes: the run file of a run that is accepted, and whose verdict is the meaning. What `eval` writes: the meaning.
-use Rattle.std.specs.Prelude.{ℕ, ◌≡◌, List, Some}
+use Rattle.std.specs.Prelude.{ℕ, ◌≡◌, ◌≤◌, List, length, Some}
 use Rattle.edge_io.specs.Files.{FilesView}
 use Rattle.edge_io.specs.Sinks.{SinkView, WritesAll}
 use Rattle.first_form.specs.declared.program.Program.{Program}
@@ -13,14 +13,15 @@ use Rattle.sierra_meaning.specs.Outcome.{MeansWithin}
 use Rattle.sierra_tool.specs.declared.command.Command.TheVariants as commands
 use Rattle.sierra_tool.specs.declared.command.Evaluate.{Evaluate}
 use Rattle.sierra_tool.specs.declared.command.Execute.{Execute}
+use Rattle.sierra_tool.specs.declared.command.Source.TheVariants as sources
 use Rattle.sierra_tool.specs.Causes.{SourceReadings, AreReadings, IsRunFile, CanRun, CanEvaluate}
-use Rattle.sierra_tool.specs.Command.{IsCommand}
+use Rattle.sierra_tool.specs.Command.{IsCommand, limit}
 use Rattle.typed_values.specs.Inputs.{InputView}
 use Rattle.typed_values.specs.Outcome.{OutcomeView}
 use Rattle.typed_values.specs.Texts.{outcome_text}
 
--- a run file was written, and `check` accepts it with the program and the input that were read: its run is accepted, and
--- the verdict that it shows is the meaning
+-- a run file was written, and `check` accepts it with the program and the input that were read: it is no longer than `check`
+-- reads, its run is accepted, and the verdict that it shows is the meaning
 pub record WritesAcceptedRun (before : FilesView) (out written : SinkView) (execute : Execute) : Type 0 where
   pub readings : SourceReadings
   pub given : AreReadings before.contents (Some (commands.Run execute)) readings
@@ -31,6 +32,7 @@ pub record WritesAcceptedRun (before : FilesView) (out written : SinkView) (exec
   pub file : List ℕ
   pub written_whole : WritesAll out written file
   pub is_file : IsRunFile file run
+  pub is_short : length file ≤ limit sources.Run
   pub accepted : IsAccepted program input run
   pub verdict : Verdict
   pub is_verdict : IsVerdict program input run verdict

@@ -15,7 +15,8 @@ use Rattle.sierra_tool.specs.Causes.{found, Gives, IsOfForm, IsRunFile}
 use Rattle.sierra_tool.specs.Command.{IsCommand}
 
 -- The files gave the texts of a program and of an input for it, and a run file, whoever made it. The run is accepted, the verdict
--- is the one to believe of it, and its text was written.
+-- is the one to believe of it, and its text was written. Where it isn't known what the files hold, nothing says more of the three
+-- texts than that a command may have read them.
 pub record WritesVerdict (before : FilesView) (out written : SinkView) (check : Check) : Type 0 where
   pub program_text : List ℕ
   pub program_read : Gives before.contents check.program.now (found program_text)
