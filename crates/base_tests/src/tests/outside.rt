@@ -55,17 +55,28 @@ fn reads_the_systems_files(rt: HostRuntime) -> Result<(), Fail> {
     let id = process::id(rt.process());
     let path = format!(in alloc; "{folder}/base_tests-{id}")?;
     let inside = format!(in alloc; "{path}/file")?;
-    let text = vec![in alloc; 7u8; 150_000]?;
+    let mut text = Vec::new(alloc);
+    for at in 0..150_000u32 {
+        text.push((at % 251) as u8)?;
+    }
     fs::write(&rt, path.as_str(), text.as_slice())?;
     let mut from = StdFiles::new(&rt);
     let whole = read_all(alloc, &mut from, path.as_str(), 150_000);
     let mut piece = [0; 4];
     let middle = from.read_at(path.as_str(), 70_000, &mut piece);
+    let mut other = [0; 4];
+    let early = from.read_at(path.as_str(), 10, &mut other);
+    let mut last = [0; 4];
+    let late = from.read_at(path.as_str(), 149_998, &mut last);
     let through = from.read_at(inside.as_str(), 0, &mut piece);
     fs::remove_file(&rt, path.as_str())?;
     assert!(rt; whole.is_ok_and(|whole| whole.as_slice() == text.as_slice()));
     assert_eq!(rt; middle, Ok(4));
     assert_eq!(rt; Some(piece.as_slice()), text.get(70_000..70_004));
+    assert_eq!(rt; early, Ok(4));
+    assert_eq!(rt; Some(other.as_slice()), text.get(10..14));
+    assert_eq!(rt; late, Ok(2));
+    assert_eq!(rt; last.get(..2), text.get(149_998..));
     assert_eq!(rt; (through, from.misses()), (Err(FileFault::Missing), 1));
     assert_eq!(rt;
         from.read_at(path.as_str(), 0, &mut piece),
