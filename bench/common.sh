@@ -85,3 +85,34 @@ with open(sys.argv[1], "wb") as out:
     states.tofile(out)
 P
 }
+
+# write_programs FOLDER: a straight program of 2^19 statements, one of 2^16 that branches and joins, and one whose only
+# statement has 100,000 arguments, and those of half as many: straight, straight_half, joining, joining_half, arguments,
+# arguments_half.
+write_programs() {
+  python3 - "$1" <<'P'
+import sys
+NAMES = {"p": "dup", "z": "felt64_is_zero", "u": "unwrap_non_zero", "d": "drop", "s": "store_temp", "b": "branch_align", "j": "jump"}
+GIVEN = {"p", "u", "d", "s"}
+HEAD = "type felt64 = felt64;\ntype NonZero<felt64> = NonZero<felt64>;\n\n" + "".join(f"libfunc {i} = {name}{'<felt64>' if i in GIVEN else ''};\n" for i, name in NAMES.items()) + "\n"
+MAIN = "\nmain@0([0]: felt64) -> (felt64);\n"
+
+def straight(count):
+    return ["s([0]) -> ([0]);"] * (count - 1) + ["return([0]);"]
+
+def joining(count):
+    lines = []
+    for base in range(0, count, 8):
+        lines += ["p([0]) -> ([0], [1]);", f"z([1]) {{ fallthrough() {base + 4}([1]) }};", "b() -> ();", f"j() {{ {base + 7}() }};",
+                  "b() -> ();", "u([1]) -> ([1]);", "d([1]) -> ();", "s([0]) -> ([0]);"]
+    return lines[:-1] + ["return([0]);"]
+
+for name, count in (("arguments", 100000), ("arguments_half", 50000)):
+    with open(f"{sys.argv[1]}/{name}", "w") as out:
+        out.write("type f = felt64;\nreturn(" + ", ".join(f"[{i}]" for i in range(count)) + ");\nmain@0("
+                  + ", ".join(f"[{i}]: f" for i in range(count)) + ") -> (" + ", ".join(["f"] * count) + ");\n")
+for name, lines in (("straight", straight(2**19)), ("straight_half", straight(2**18)), ("joining", joining(2**16)), ("joining_half", joining(2**15))):
+    with open(f"{sys.argv[1]}/{name}", "w") as out:
+        out.write(HEAD + "\n".join(lines) + "\n" + MAIN)
+P
+}
