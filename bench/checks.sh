@@ -1,8 +1,8 @@
 #!/usr/bin/env bash
 # How long the checks of a program take that `run` makes before it looks at the input: of a straight program of 2^19
-# statements and of one of 2^16 statements that branches and joins, and of those of half as many; and how long `gas` takes of a
-# statement with 100,000 arguments. Reading the text is left
-# out, as `show` takes it, which prints the text besides. It needs python3, and stands outside the gate.
+# statements and of one of 2^16 statements that branches and joins, and of those of half as many. Reading the text is left
+# out, as `show` takes it, which prints the text besides. Then how long `gas` takes of a statement with 100,000 arguments,
+# and of one with half as many. It needs python3, and stands outside the gate.
 . "$(dirname "${BASH_SOURCE[0]}")/common.sh"
 write_programs "$folder"
 
