@@ -1,0 +1,4 @@
+pub mod Growing
+pub mod LogStands
+pub mod Standing
+pub mod Stands
