@@ -8,3 +8,4 @@ pub mod Moves
 pub mod Placed
 pub mod Prepared
 pub mod Sized
+pub mod Stored

@@ -95,3 +95,58 @@ impl Clone for Cells {
         }
     }
 }
+
+/// The expressions of a variable's cells, in order, as they are read.
+#[derive(Debug, Drop)]
+pub struct CellsAt<'a> {
+    read: Read<'a>,
+}
+
+/// How the expressions are read.
+#[derive(Debug, Drop)]
+enum Read<'a> {
+    /// A single one.
+    One(CellExpr),
+    /// None or several, where they are kept.
+    Lent(&'a [CellExpr]),
+}
+
+impl<'a> Model for CellsAt<'a> {
+    ghost use Rattle.std.specs.Prelude.{List};
+    ghost use Rattle.casm_word.specs.declared.cell_expr.CellExpr.{CellExpr as Expr};
+    ghost use Rattle.ap_refs.specs.Kept.{read_of};
+
+    ghost Value = { List Expr };
+
+    ghost view = { λ cells. read_of cells.read };
+}
+
+impl<'a> CellsAt<'a> {
+    /// A single cell.
+    pub(crate) fn one(cell: CellExpr) -> CellsAt<'a>
+        ensures { result ≡ cell ∷ [] }
+    {
+        CellsAt {
+            read: Read::One(cell),
+        }
+    }
+
+    /// These cells.
+    pub(crate) fn lent(cells: &'a [CellExpr]) -> CellsAt<'a>
+        ensures { result ≡ cells.now }
+    {
+        CellsAt {
+            read: Read::Lent(cells),
+        }
+    }
+
+    /// The cells as a slice.
+    pub fn items(&self) -> &[CellExpr]
+        ensures { result.now ≡ self.now }
+    {
+        match &self.read {
+            Read::One(cell) => slice::from_ref(cell),
+            Read::Lent(cells) => cells,
+        }
+    }
+}

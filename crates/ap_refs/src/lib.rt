@@ -18,7 +18,9 @@ mod passing;
 mod place;
 mod placing;
 mod same;
+mod stored;
 
+pub use cells::CellsAt;
 pub use check::places;
 pub use fault::RefFault;
 pub use laws::{

@@ -17,6 +17,7 @@ use crate::arguments::keep;
 use crate::cells::Cells;
 use crate::moves;
 use crate::place::{Locals, Place};
+use crate::stored::Stored;
 use casm_word::{At, CellExpr, Reg};
 use cost_table::results;
 use held_list::Held;
@@ -166,7 +167,7 @@ impl Passing<'_> {
         branch: &Branch,
         kinds: &[TypeId],
         rest: Held<Cells>,
-    ) -> Result<(usize, Place), AllocError>
+    ) -> Result<(usize, Stored), AllocError>
         requires placed { IsPlaced self.now.types.now self.now.sig.now.libfunc }
         requires step { CanStep self.now.types.now self.now.sig.now self.now.place.now.ap self.now.args.now rest self.now.amount }
         requires branch { k < length self.now.sig.now.branches }
@@ -176,7 +177,8 @@ impl Passing<'_> {
         ensures place { IfOk result (λ part. part.1 ≡ moving.behind self.now.types.now self.now.sig.now.libfunc self.now.place.now self.now.args.now rest self.now.locals self.now.amount k branch.now.results kinds.now) }
     {
         let place = self.give(k, branch.results.items(), kinds, rest)?;
-        Ok((target_of(statement, branch.target) as usize, place))
+        let stored = Stored::new(self.alloc, place)?;
+        Ok((target_of(statement, branch.target) as usize, stored))
     }
 
     /// What is known behind each branch, with the branch's target. `rest` is held without the arguments.
@@ -185,7 +187,7 @@ impl Passing<'_> {
         statement: usize,
         branches: &[Branch],
         rest: Held<Cells>,
-    ) -> Result<Vec<(usize, Place)>, AllocError>
+    ) -> Result<Vec<(usize, Stored)>, AllocError>
         requires placed { IsPlaced self.now.types.now self.now.sig.now.libfunc }
         requires step { CanStep self.now.types.now self.now.sig.now self.now.place.now.ap self.now.args.now rest self.now.amount }
         requires counted { length branches.now ≡ length self.now.sig.now.branches }

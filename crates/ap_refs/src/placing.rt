@@ -19,6 +19,7 @@ use crate::fault::RefFault;
 use crate::marks::marks_of;
 use crate::passing::Passing;
 use crate::place::{Locals, Place};
+use crate::stored::Stored;
 use crate::{arguments, locals, moves, same};
 use casm_word::CellExpr;
 use held_list::Held;
@@ -195,7 +196,7 @@ impl Placing<'_> {
     }
 
     /// No branch, with the fault of the statement before its branches if it has one.
-    fn stop(&self, fault: Option<RefFault>) -> Branches<Place, RefFault>
+    fn stop(&self, fault: Option<RefFault>) -> Branches<Stored, RefFault>
         ensures given { result.given.items ≡ [] }
         ensures fault { result.fault ≡ fault }
     {
@@ -229,7 +230,7 @@ impl Placing<'_> {
         args: &[u64],
         branches: &[Branch],
         place: &Place,
-    ) -> Result<Branches<Place, RefFault>, AllocError>
+    ) -> Result<Branches<Stored, RefFault>, AllocError>
         requires ready { IsReady self.now.program.now self.now.types.now self.now.sigs.now self.now.libfuncs }
         requires here { slice_get self.now.program.now.statements statement ≡ Some (Invoke libfunc.now args.now branches.now) }
         requires valid { (n : ℕ) × (n < length self.now.program.now.statements) × IsValid n statement place.now }
@@ -249,7 +250,7 @@ impl Placing<'_> {
         branches: &[Branch],
         place: &Place,
         args: &[u64],
-    ) -> Result<Branches<Place, RefFault>, AllocError>
+    ) -> Result<Branches<Stored, RefFault>, AllocError>
         requires begin { CanBegin self.now.types.now sig.now branches.now place.now (arguments_of.taken args.now place.now.cells).1 }
         requires here { statement + 1 < 2 ^ 64 }
         ensures { IfOk result (λ parts. AreFirst parts.given.items parts.fault (flow.taken_parts self.now.types.now statement sig.now place.now branches.now (arguments_of.taken args.now place.now.cells))) }
@@ -268,7 +269,7 @@ impl Placing<'_> {
         sig: &Sig,
         branches: &[Branch],
         place: &Place,
-    ) -> Result<Branches<Place, RefFault>, AllocError>
+    ) -> Result<Branches<Stored, RefFault>, AllocError>
         requires begin { CanBegin self.now.types.now sig.now branches.now place.now place.now.cells }
         requires here { statement + 1 < 2 ^ 64 }
         ensures { IfOk result (λ parts. AreFirst parts.given.items parts.fault (flow.taken_parts self.now.types.now statement sig.now place.now branches.now ([], place.now.cells))) }
@@ -285,7 +286,7 @@ impl Placing<'_> {
         branches: &[Branch],
         place: &Place,
         variable: u64,
-    ) -> Result<Branches<Place, RefFault>, AllocError>
+    ) -> Result<Branches<Stored, RefFault>, AllocError>
         requires begin { CanBegin self.now.types.now sig.now branches.now place.now (arguments_of.taken (variable ∷ []) place.now.cells).1 }
         requires here { statement + 1 < 2 ^ 64 }
         ensures { IfOk result (λ parts. AreFirst parts.given.items parts.fault (flow.taken_parts self.now.types.now statement sig.now place.now branches.now (arguments_of.taken (variable ∷ []) place.now.cells))) }
@@ -313,7 +314,7 @@ impl Placing<'_> {
         branches: &[Branch],
         place: &Place,
         variables: &[u64],
-    ) -> Result<Branches<Place, RefFault>, AllocError>
+    ) -> Result<Branches<Stored, RefFault>, AllocError>
         requires begin { CanBegin self.now.types.now sig.now branches.now place.now (arguments_of.taken variables.now place.now.cells).1 }
         requires here { statement + 1 < 2 ^ 64 }
         ensures { IfOk result (λ parts. AreFirst parts.given.items parts.fault (flow.taken_parts self.now.types.now statement sig.now place.now branches.now (arguments_of.taken variables.now place.now.cells))) }
@@ -332,7 +333,7 @@ impl Placing<'_> {
         place: &Place,
         args: &[(u64, Cells)],
         rest: Held<Cells>,
-    ) -> Result<Branches<Place, RefFault>, AllocError>
+    ) -> Result<Branches<Stored, RefFault>, AllocError>
         requires begin { CanBegin self.now.types.now sig.now branches.now place.now rest }
         requires here { statement + 1 < 2 ^ 64 }
         ensures { IfOk result (λ parts. AreFirst parts.given.items parts.fault (flow.taken_parts self.now.types.now statement sig.now place.now branches.now (args.now, rest))) }
@@ -351,7 +352,7 @@ impl Placing<'_> {
         args: &[(u64, Cells)],
         cells: &[CellExpr],
         rest: Held<Cells>,
-    ) -> Result<Branches<Place, RefFault>, AllocError>
+    ) -> Result<Branches<Stored, RefFault>, AllocError>
         requires begin { CanBegin self.now.types.now sig.now branches.now place.now rest }
         requires here { statement + 1 < 2 ^ 64 }
         requires cells { cells.now ≡ arguments_of.joined args.now }
@@ -387,13 +388,34 @@ impl Placing<'_> {
         })
     }
 
+    /// What a statement gives its branches, or its fault.
+    fn pass_statement(
+        &self,
+        statement: usize,
+        place: &Place,
+    ) -> Result<Branches<Stored, RefFault>, AllocError>
+        requires ready { IsReady self.now.program.now self.now.types.now self.now.sigs.now self.now.libfuncs }
+        requires inside { statement < length self.now.program.now.statements }
+        requires valid { (n : ℕ) × (n < length self.now.program.now.statements) × IsValid n statement place.now }
+        ensures { IfOk result (λ parts. AreFirst parts.given.items parts.fault (flow.statement_flow self.now.program.now self.now.types.now self.now.sigs.now statement place.now (slice_get self.now.program.now.statements statement))) }
+    {
+        match self.statement(statement) {
+            Statement::Invoke {
+                libfunc,
+                args,
+                branches,
+            } => self.invoke(statement, libfunc, args.items(), branches.items(), place),
+            Statement::Return { args } => self.end(statement as u64, args.items(), place),
+        }
+    }
+
     /// The end of a function gives nothing to any branch, or its fault.
     fn end(
         &self,
         statement: u64,
         args: &[u64],
         place: &Place,
-    ) -> Result<Branches<Place, RefFault>, AllocError>
+    ) -> Result<Branches<Stored, RefFault>, AllocError>
         ensures { IfOk result (λ parts. AreFirst parts.given.items parts.fault (flow.parts_unless (flow.return_fault statement place.now (arguments_of.taken args.now place.now.cells).0) [])) }
     {
         let mut rest = moves::copy(&place.cells)?;
@@ -407,7 +429,7 @@ impl WalkRules for Placing<'_> {
     ghost use Rattle.ap_refs.specs.Flow.{rules as rules_of};
     ghost use Rattle.ap_refs.specs.Prepared.{IsReady, IsValid};
 
-    type Env = Place;
+    type Env = Stored;
 
     type Fault = RefFault;
 
@@ -425,7 +447,7 @@ impl WalkRules for Placing<'_> {
         self.program.functions.items().len()
     }
 
-    fn entry(&self, function: usize) -> Result<(usize, Place), AllocError> {
+    fn entry(&self, function: usize) -> Result<(usize, Stored), AllocError> {
         let _types = self.types.len();
         let declared = self.function(function);
         let place = moves::beginning(
@@ -434,26 +456,24 @@ impl WalkRules for Placing<'_> {
             declared.params.items(),
             self.params_of(function),
         )?;
-        Ok((declared.entry as usize, place))
+        let stored = Stored::new(self.alloc, place)?;
+        Ok((declared.entry as usize, stored))
     }
 
     fn flow(
         &self,
         _function: usize,
         statement: usize,
-        env: &Place,
-    ) -> Result<Branches<Place, RefFault>, AllocError> {
-        match self.statement(statement) {
-            Statement::Invoke {
-                libfunc,
-                args,
-                branches,
-            } => self.invoke(statement, libfunc, args.items(), branches.items(), env),
-            Statement::Return { args } => self.end(statement as u64, args.items(), env),
+        env: &Stored,
+    ) -> Result<Branches<Stored, RefFault>, AllocError> {
+        if let Some(place) = env.wide() {
+            return self.pass_statement(statement, place);
         }
+        let place = env.widened(self.alloc)?;
+        self.pass_statement(statement, &place)
     }
 
-    fn clash(&self, statement: usize, given: &Place, had: &Place) -> Option<RefFault> {
+    fn clash(&self, statement: usize, given: &Stored, had: &Stored) -> Option<RefFault> {
         same::clash(statement as u64, given, had)
     }
 

@@ -6,7 +6,8 @@ ghost use Rattle.ap_refs.specs.Flow as flow;
 
 use crate::cells::Cells;
 use crate::fault::RefFault;
-use crate::place::{Locals, Place};
+use crate::place::Locals;
+use crate::stored::Stored;
 use casm_word::{At, CellExpr, Reg, Side};
 
 fn same_reg(a: Reg, b: Reg) -> bool
@@ -103,15 +104,16 @@ fn first_difference(left: &[(u64, Cells)], right: &[(u64, Cells)]) -> Option<u64
 }
 
 /// Why what a statement gives doesn't agree with what its target has.
-pub(crate) fn clash(statement: u64, given: &Place, had: &Place) -> Option<RefFault>
+pub(crate) fn clash(statement: u64, given: &Stored, had: &Stored) -> Option<RefFault>
     ensures { result ≡ flow.clash statement given.now had.now }
 {
-    match first_difference(given.cells.items(), had.cells.items()) {
+    let (cells, others) = (given.pairs(), had.pairs());
+    match first_difference(cells.items(), others.items()) {
         Some(variable) => Some(RefFault::MergeDiffers {
             statement,
             variable: Some(variable),
         }),
-        None if same_ap(given.ap, had.ap) && same_locals(given.locals, had.locals) => None,
+        None if same_ap(given.ap(), had.ap()) && same_locals(given.locals(), had.locals()) => None,
         None => Some(RefFault::MergeDiffers {
             statement,
             variable: None,

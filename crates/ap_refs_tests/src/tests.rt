@@ -223,7 +223,9 @@ fn listed(alloc: Global, places: &Places, envs: &Envs, count: usize) -> Result<S
         for (variable, _) in envs.held(s) {
             let variable = *variable;
             text.push_str(&format!(in alloc; " {variable}=")?)?;
-            push_cells(alloc, &mut text, places.cells(s, variable).unwrap_or(&[]))?;
+            if let Some(cells) = places.cells(s, variable) {
+                push_cells(alloc, &mut text, cells.items())?;
+            }
         }
         text.push_str("\n")?;
     }

@@ -1,4 +1,4 @@
-use Rattle.std.proofs.Common.{◌<◌, length, sym, subst, arith}
+use Rattle.std.proofs.Common.{◌<◌, length, sym, subst, ◌∙◌, arith}
 use Rattle.std.specs.List.{All}
 use Rattle.libfunc_registry.specs.Wanted.{IsBelow}
 use Rattle.ap_refs.proofs.Entries.{entries_length, entry_is, params_below}
@@ -12,5 +12,5 @@ beginning-requires c = subst (All (IsBelow c.args.self.now.types.now)) (sym c.pa
 
 pub returns : goal.returns
 returns c =
-    entry_is c.args.self.now.types.now c.args.self.now.program.now.functions c.args.function c.function-declared.result.now c.items.result.now c.params_of.result.now c.in_ok-place.place
-    c.function-declared.ensures c.items.ensures c.params_of.ensures c.in_ok-place.ensures
+    entry_is c.args.self.now.types.now c.args.self.now.program.now.functions c.args.function c.function-declared.result.now c.items.result.now c.params_of.result.now c.in_ok-stored.stored
+    c.function-declared.ensures c.items.ensures c.params_of.ensures (c.in_ok-stored.ensures ∙ c.in_ok-place.ensures)
