@@ -12,7 +12,6 @@ pub mod Holding
 pub mod Joining
 pub mod Keeping
 pub mod Lawfulness
-pub mod Left
 pub mod Lists
 pub mod Reaching
 pub mod Sizes

@@ -23,49 +23,11 @@ fn take_out<H: HeldSteps<Cells>>(alloc: Global, variable: u64, held: &mut H) -> 
     }
 }
 
-/// The pair of a variable, if it is held.
-#[tactic(auto, using(crate::proofs::Left::pair_out))]
-pub(crate) fn pair_of(variable: u64, held: &Held<Cells>) -> Option<&(u64, Cells)>
-    ensures { IfSome result (λ pair. pair.now ≡ (variable, (arguments.taken_out variable held.now).0)) }
+/// Takes one variable out, and gives its cells.
+pub(crate) fn take_one(alloc: Global, variable: u64, held: &mut Held<Cells>) -> Cells
+    ensures { arguments.taken_out variable held.old ≡ (result, held.new) }
 {
-    let mut items = held.items();
-    while let [pair, later @ ..] = items {
-        if variable == pair.0 {
-            return Some(pair);
-        }
-        items = later;
-    }
-    None
-}
-
-/// Adds a copy of a pair at the end, if it is another variable's.
-fn keep_other(
-    variable: u64,
-    pair: &(u64, Cells),
-    pairs: &mut Vec<(u64, Cells)>,
-) -> Result<(), AllocError>
-    ensures { (later : List arguments.Argument) → OnOk result (pairs.new.items ++ arguments.without variable later ≡ pairs.old.items ++ arguments.without variable (pair.now ∷ later)) }
-{
-    if variable == pair.0 {
-        return Ok(());
-    }
-    keep(pairs, (pair.0, pair.1.clone()?))
-}
-
-/// What is held without a variable.
-pub(crate) fn left_without(
-    alloc: Global,
-    variable: u64,
-    held: &Held<Cells>,
-) -> Result<Held<Cells>, AllocError>
-    ensures { IfOk result (λ left. left ≡ (arguments.taken_out variable held.now).1) }
-{
-    let items = held.items();
-    let mut pairs = Vec::with_capacity(alloc, items.len())?;
-    for pair in items {
-        keep_other(variable, pair, &mut pairs)?;
-    }
-    Ok(Held::from_rising(pairs))
+    take_out(alloc, variable, held)
 }
 
 /// Takes variables out, one after another, and gives them with their cells.

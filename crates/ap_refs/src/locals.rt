@@ -9,6 +9,7 @@ ghost use Rattle.ap_refs.specs.Prepared.{AreSmallLocals};
 use crate::fault::RefFault;
 use crate::moves::size;
 use crate::place::Locals;
+use crate::stored::Stored;
 use libfunc_registry::Libfunc;
 use type_table::Types;
 
@@ -67,7 +68,7 @@ fn store(locals: Locals) -> Option<(Locals, u64)>
 }
 
 /// What a libfunc makes of the local state, with its amount, if the rule of locals lets it.
-pub(crate) fn local_step(
+fn local_step(
     types: &Types,
     libfunc: Libfunc,
     ap: Option<u64>,
@@ -83,6 +84,15 @@ pub(crate) fn local_step(
         Libfunc::StoreLocal(_) => store(locals),
         _ => Some((locals, 0)),
     }
+}
+
+/// What a libfunc makes of the local state of a place.
+pub(crate) fn step_at(types: &Types, libfunc: Libfunc, place: &Stored) -> Option<(Locals, u64)>
+    requires placed { IsPlaced types.now libfunc }
+    requires small { AreSmallLocals place.now.locals }
+    ensures { result ≡ locals_of.local_step types.now libfunc place.now.ap place.now.locals }
+{
+    local_step(types, libfunc, place.ap(), place.locals())
 }
 
 /// The fault where the rule of locals doesn't let a libfunc.

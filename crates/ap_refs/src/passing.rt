@@ -36,7 +36,7 @@ pub struct Passing<'a> {
     /// The libfunc's signature.
     pub sig: &'a Sig,
     /// What is known at the statement.
-    pub place: &'a Place,
+    pub place: &'a Stored,
     /// The cells of the arguments, in order.
     pub args: &'a [CellExpr],
     /// The local state behind the statement.
@@ -134,6 +134,15 @@ impl Passing<'_> {
         moves::add_all(self.alloc, self.types, variables, kinds, &own, held)
     }
 
+    /// How far ap is behind the statement from where it was at the function's begin, once it has moved.
+    fn further(&self, moved: Option<u64>) -> Option<u64>
+        requires ap { IfSome self.now.place.now.ap (λ a. a < 2 ^ 62) }
+        requires moved { IfSome moved (λ n. n < 2 ^ 62) }
+        ensures { result ≡ moving.further self.now.place.now.ap moved }
+    {
+        moves::further(self.place.ap(), moved)
+    }
+
     /// What is known behind a branch that gives results of these types to these variables, where `rest` is held without the
     /// arguments.
     fn give(
@@ -154,7 +163,7 @@ impl Passing<'_> {
         self.add_results(branch, variables, kinds, &mut held)?;
         Ok(Place {
             cells: held,
-            ap: moves::further(self.place.ap, moved),
+            ap: self.further(moved),
             locals: self.locals,
         })
     }

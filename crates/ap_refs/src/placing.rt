@@ -18,7 +18,7 @@ use crate::cells::Cells;
 use crate::fault::RefFault;
 use crate::marks::marks_of;
 use crate::passing::Passing;
-use crate::place::{Locals, Place};
+use crate::place::Locals;
 use crate::stored::Stored;
 use crate::{arguments, locals, moves, same};
 use casm_word::CellExpr;
@@ -112,7 +112,7 @@ fn loses_ap(libfunc: Libfunc) -> bool
 }
 
 /// The fault of what is left behind a libfunc that makes the change of ap unknown.
-fn dangling_fault(statement: u64, libfunc: Libfunc, rest: &Held<Cells>) -> Option<RefFault>
+fn dangling_fault(statement: u64, libfunc: Libfunc, rest: &[(u64, Cells)]) -> Option<RefFault>
     ensures { result ≡ flow.dangling_fault statement libfunc rest.now }
 {
     if loses_ap(libfunc) {
@@ -123,10 +123,10 @@ fn dangling_fault(statement: u64, libfunc: Libfunc, rest: &Held<Cells>) -> Optio
 }
 
 /// The fault of what is left with a cell from ap.
-fn left_fault(statement: u64, rest: &Held<Cells>) -> Option<RefFault>
+fn left_fault(statement: u64, rest: &[(u64, Cells)]) -> Option<RefFault>
     ensures { result ≡ flow.left_fault statement rest.now }
 {
-    let variable = arguments::first_from_ap(rest.items())?;
+    let variable = arguments::first_from_ap(rest)?;
     Some(RefFault::Dangling {
         statement,
         variable,
@@ -156,7 +156,7 @@ fn invoke_fault(
     if let Some(fault) = locals::local_fault(statement, step) {
         return Some(fault);
     }
-    dangling_fault(statement, libfunc, rest)
+    dangling_fault(statement, libfunc, rest.items())
 }
 
 /// The first fault of the end of a function whose results have so many cells.
@@ -164,15 +164,15 @@ fn return_fault(
     statement: u64,
     count: u64,
     args: &[(u64, Cells)],
-    locals: Locals,
+    place: &Stored,
 ) -> Option<RefFault>
     requires few { count < 2 ^ 63 }
     requires count { count ≡ length (arguments_of.joined args.now) }
-    ensures { result ≡ flow.end_faults statement locals args.now }
+    ensures { result ≡ flow.end_faults statement place.now.locals args.now }
 {
     far_fault(statement, args)
         .or(stack_fault(statement, count, args))
-        .or(locals::end_fault(statement, locals))
+        .or(locals::end_fault(statement, place.locals()))
 }
 
 impl Placing<'_> {
@@ -229,7 +229,7 @@ impl Placing<'_> {
         libfunc: &Name,
         args: &[u64],
         branches: &[Branch],
-        place: &Place,
+        place: &Stored,
     ) -> Result<Branches<Stored, RefFault>, AllocError>
         requires ready { IsReady self.now.program.now self.now.types.now self.now.sigs.now self.now.libfuncs }
         requires here { slice_get self.now.program.now.statements statement ≡ Some (Invoke libfunc.now args.now branches.now) }
@@ -248,7 +248,7 @@ impl Placing<'_> {
         statement: usize,
         sig: &Sig,
         branches: &[Branch],
-        place: &Place,
+        place: &Stored,
         args: &[u64],
     ) -> Result<Branches<Stored, RefFault>, AllocError>
         requires begin { CanBegin self.now.types.now sig.now branches.now place.now (arguments_of.taken args.now place.now.cells).1 }
@@ -268,39 +268,38 @@ impl Placing<'_> {
         statement: usize,
         sig: &Sig,
         branches: &[Branch],
-        place: &Place,
+        place: &Stored,
     ) -> Result<Branches<Stored, RefFault>, AllocError>
         requires begin { CanBegin self.now.types.now sig.now branches.now place.now place.now.cells }
         requires here { statement + 1 < 2 ^ 64 }
         ensures { IfOk result (λ parts. AreFirst parts.given.items parts.fault (flow.taken_parts self.now.types.now statement sig.now place.now branches.now ([], place.now.cells))) }
     {
-        let rest = moves::copy(&place.cells)?;
+        let rest = place.held(self.alloc)?;
         self.pass_cells(statement, sig, branches, place, &[], &[], rest)
     }
 
-    /// The same, where this variable is the one argument. Its cells are read where they are held.
+    /// The same, where this variable is the one argument.
     fn pass_one(
         &self,
         statement: usize,
         sig: &Sig,
         branches: &[Branch],
-        place: &Place,
+        place: &Stored,
         variable: u64,
     ) -> Result<Branches<Stored, RefFault>, AllocError>
         requires begin { CanBegin self.now.types.now sig.now branches.now place.now (arguments_of.taken (variable ∷ []) place.now.cells).1 }
         requires here { statement + 1 < 2 ^ 64 }
         ensures { IfOk result (λ parts. AreFirst parts.given.items parts.fault (flow.taken_parts self.now.types.now statement sig.now place.now branches.now (arguments_of.taken (variable ∷ []) place.now.cells))) }
     {
-        let Some(arg) = arguments::pair_of(variable, &place.cells) else {
-            return self.pass_list(statement, sig, branches, place, &[variable]);
-        };
-        let rest = arguments::left_without(self.alloc, variable, &place.cells)?;
+        let mut rest = place.held(self.alloc)?;
+        let own = arguments::take_one(self.alloc, variable, &mut rest);
+        let arg = (variable, own);
         self.pass_cells(
             statement,
             sig,
             branches,
             place,
-            slice::from_ref(arg),
+            slice::from_ref(&arg),
             arg.1.items(),
             rest,
         )
@@ -312,14 +311,14 @@ impl Placing<'_> {
         statement: usize,
         sig: &Sig,
         branches: &[Branch],
-        place: &Place,
+        place: &Stored,
         variables: &[u64],
     ) -> Result<Branches<Stored, RefFault>, AllocError>
         requires begin { CanBegin self.now.types.now sig.now branches.now place.now (arguments_of.taken variables.now place.now.cells).1 }
         requires here { statement + 1 < 2 ^ 64 }
         ensures { IfOk result (λ parts. AreFirst parts.given.items parts.fault (flow.taken_parts self.now.types.now statement sig.now place.now branches.now (arguments_of.taken variables.now place.now.cells))) }
     {
-        let mut rest = moves::copy(&place.cells)?;
+        let mut rest = place.held(self.alloc)?;
         let args = arguments::take_all(self.alloc, variables, &mut rest)?;
         self.pass(statement, sig, branches, place, &args, rest)
     }
@@ -330,7 +329,7 @@ impl Placing<'_> {
         statement: usize,
         sig: &Sig,
         branches: &[Branch],
-        place: &Place,
+        place: &Stored,
         args: &[(u64, Cells)],
         rest: Held<Cells>,
     ) -> Result<Branches<Stored, RefFault>, AllocError>
@@ -348,7 +347,7 @@ impl Placing<'_> {
         statement: usize,
         sig: &Sig,
         branches: &[Branch],
-        place: &Place,
+        place: &Stored,
         args: &[(u64, Cells)],
         cells: &[CellExpr],
         rest: Held<Cells>,
@@ -358,7 +357,7 @@ impl Placing<'_> {
         requires cells { cells.now ≡ arguments_of.joined args.now }
         ensures { IfOk result (λ parts. AreFirst parts.given.items parts.fault (flow.taken_parts self.now.types.now statement sig.now place.now branches.now (args.now, rest))) }
     {
-        let step = locals::local_step(self.types, sig.libfunc, place.ap, place.locals);
+        let step = locals::step_at(self.types, sig.libfunc, place);
         let fault = invoke_fault(
             statement as u64,
             sig.libfunc,
@@ -388,40 +387,19 @@ impl Placing<'_> {
         })
     }
 
-    /// What a statement gives its branches, or its fault.
-    fn pass_statement(
-        &self,
-        statement: usize,
-        place: &Place,
-    ) -> Result<Branches<Stored, RefFault>, AllocError>
-        requires ready { IsReady self.now.program.now self.now.types.now self.now.sigs.now self.now.libfuncs }
-        requires inside { statement < length self.now.program.now.statements }
-        requires valid { (n : ℕ) × (n < length self.now.program.now.statements) × IsValid n statement place.now }
-        ensures { IfOk result (λ parts. AreFirst parts.given.items parts.fault (flow.statement_flow self.now.program.now self.now.types.now self.now.sigs.now statement place.now (slice_get self.now.program.now.statements statement))) }
-    {
-        match self.statement(statement) {
-            Statement::Invoke {
-                libfunc,
-                args,
-                branches,
-            } => self.invoke(statement, libfunc, args.items(), branches.items(), place),
-            Statement::Return { args } => self.end(statement as u64, args.items(), place),
-        }
-    }
-
     /// The end of a function gives nothing to any branch, or its fault.
     fn end(
         &self,
         statement: u64,
         args: &[u64],
-        place: &Place,
+        place: &Stored,
     ) -> Result<Branches<Stored, RefFault>, AllocError>
         ensures { IfOk result (λ parts. AreFirst parts.given.items parts.fault (flow.parts_unless (flow.return_fault statement place.now (arguments_of.taken args.now place.now.cells).0) [])) }
     {
-        let mut rest = moves::copy(&place.cells)?;
+        let mut rest = place.held(self.alloc)?;
         let args = arguments::take_all(self.alloc, args, &mut rest)?;
         let cells = arguments::join(self.alloc, &args)?;
-        Ok(self.stop(return_fault(statement, cells.len() as u64, &args, place.locals)))
+        Ok(self.stop(return_fault(statement, cells.len() as u64, &args, place)))
     }
 }
 
@@ -466,11 +444,14 @@ impl WalkRules for Placing<'_> {
         statement: usize,
         env: &Stored,
     ) -> Result<Branches<Stored, RefFault>, AllocError> {
-        if let Some(place) = env.wide() {
-            return self.pass_statement(statement, place);
+        match self.statement(statement) {
+            Statement::Invoke {
+                libfunc,
+                args,
+                branches,
+            } => self.invoke(statement, libfunc, args.items(), branches.items(), env),
+            Statement::Return { args } => self.end(statement as u64, args.items(), env),
         }
-        let place = env.widened(self.alloc)?;
-        self.pass_statement(statement, &place)
     }
 
     fn clash(&self, statement: usize, given: &Stored, had: &Stored) -> Option<RefFault> {

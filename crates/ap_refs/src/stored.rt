@@ -170,30 +170,15 @@ impl Stored {
         Ok(Stored { kept })
     }
 
-    /// The place, where it isn't kept in the near form.
-    pub(crate) fn wide(&self) -> Option<&Place>
-        ensures { IfSome result (λ place. place.now ≡ self.now) }
+    /// The variables with their cells, as a list to take arguments out of.
+    pub(crate) fn held(&self, alloc: Global) -> Result<Held<Cells>, AllocError>
+        ensures { IfOk result (λ held. held ≡ self.now.cells) }
     {
         match &self.kept {
-            Kept::Wide(place) => Some(place),
-            _ => None,
+            Kept::One(own, _) => held_one(alloc, own.pair()),
+            Kept::Two(first, second, _) => held_two(alloc, first.pair(), second.pair()),
+            Kept::Wide(place) => moves::copy(&place.cells),
         }
-    }
-
-    /// The same place, widened.
-    pub(crate) fn widened(&self, alloc: Global) -> Result<Place, AllocError>
-        ensures { IfOk result (λ place. place ≡ self.now) }
-    {
-        let cells = match &self.kept {
-            Kept::One(own, _) => held_one(alloc, own.pair())?,
-            Kept::Two(first, second, _) => held_two(alloc, first.pair(), second.pair())?,
-            Kept::Wide(place) => moves::copy(&place.cells)?,
-        };
-        Ok(Place {
-            cells,
-            ap: self.ap(),
-            locals: self.locals(),
-        })
     }
 
     /// The variables with their cells, in rising order. It takes no memory.
