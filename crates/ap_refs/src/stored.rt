@@ -232,16 +232,16 @@ impl Stored {
     }
 }
 
-/// One variable with its cells.
+/// One variable with its cells. There is room for one more, as a statement may give two results for its argument.
 fn held_one(alloc: Global, own: (u64, Cells)) -> Result<Held<Cells>, AllocError>
     ensures { IfOk result (λ held. held ≡ own ∷ []) }
 {
-    let mut pairs = Vec::with_capacity(alloc, 1)?;
+    let mut pairs = Vec::with_capacity(alloc, 2)?;
     pairs.push_reserved(own);
     Ok(Held::from_rising(pairs))
 }
 
-/// Two variables with their cells, the lesser first.
+/// Two variables with their cells, the lesser first, and room for one more.
 fn held_two(
     alloc: Global,
     first: (u64, Cells),
@@ -250,7 +250,7 @@ fn held_two(
     requires { first.0 < second.0 }
     ensures { IfOk result (λ held. held ≡ first ∷ second ∷ []) }
 {
-    let mut pairs = Vec::with_capacity(alloc, 2)?;
+    let mut pairs = Vec::with_capacity(alloc, 3)?;
     pairs.push_reserved(first);
     pairs.push_reserved(second);
     Ok(Held::from_rising(pairs))
