@@ -1,32 +1,9 @@
-//! The program `sierra`: the tool over the system's files and standard output.
+//! The program `sierra`.
 #![tactic(auto)]
 
-use edge_io::{StdFiles, StdSink};
-use sierra_tool::{Shelf, sierra_tool};
-use std::alloc::AllocError;
-use std::env;
-use std::io::ErrorKind;
+use sierra_main::sierra_main;
 use std::process::ExitCode;
 
-/// The status where there was no memory for the words.
-const OUT_OF_MEMORY: u8 = 6;
-
 fn main(rt: HostRuntime) -> ExitCode {
-    let words = match words(&rt) {
-        Ok(words) => words,
-        Err(_) => return ExitCode::from(OUT_OF_MEMORY),
-    };
-    let mut out = StdSink::new(rt.stdout());
-    let alloc = rt.alloc();
-    let mut files = StdFiles::new(rt);
-    ExitCode::from(sierra_tool(alloc, &words, &mut files, &mut out, Shelf {}))
-}
-
-/// The words after the program's name. Words that are no text are none, and so no command.
-fn words(rt: &HostRuntime) -> Result<Vec<String>, AllocError> {
-    match env::args(rt) {
-        Ok(all) => all.skip(1).collect(rt.alloc()),
-        Err(e) if e.kind() == ErrorKind::InvalidData => Ok(Vec::new(rt.alloc())),
-        Err(_) => Err(AllocError),
-    }
+    sierra_main(rt)
 }
