@@ -1,6 +1,10 @@
+pub mod ByType
 pub mod Growth
 pub mod Logs
 pub mod Once
+pub mod ShowLaws
+pub mod ShowSteps
+pub mod Shown
 pub mod Sides
 pub mod Sizes
 pub mod Snapshots

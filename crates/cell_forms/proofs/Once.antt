@@ -54,7 +54,7 @@ module _ (m : ℕ → Option ℕ) {X : Type 0} (Q : Readings → X → Type 0) (
       let long = lengths_once z h.0 (length xs) (length ys) some few h.4 g.4 sums in
       each_once z h.0 0 xs ys long h.5 (subst (λ s. Each m Q z s 0 ys) (sym start) g.5)
 
-both_true : (a b : Bool) → (a && b) ≡ true → (a ≡ true) × (b ≡ true)
+pub both_true : (a b : Bool) → (a && b) ≡ true → (a ≡ true) × (b ≡ true)
 both_true true b h = (refl, h)
 both_true false b h = absurd (false≢true h)
 

@@ -1,12 +1,14 @@
 //! Values in cells: which value of a type stands in some cells of a memory.
 //!
-//! Types as trees and readings of cells come in; what stands there goes out. Accepted runs, the verdict, and the contract of
+//! Cells of a memory and a type come in; the value that stands there goes out. Accepted runs, the verdict, and the contract of
 //! every lowering speak of values in cells by these definitions.
 #![tactic(auto)]
 
 mod laws;
+mod showing;
 
 pub use laws::{
     one_value_stands, padding_is_free, snapshots_stand_alike, standing_lasts,
     standing_side_by_side, standing_takes_its_cells, what_stands_is_of_its_type,
 };
+pub use showing::{ShowFault, show};
