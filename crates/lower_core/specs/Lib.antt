@@ -1,0 +1,4 @@
+pub mod Control
+pub mod Core
+pub mod Data
+pub mod Felts

@@ -1,0 +1,7 @@
+pub mod AtOnce
+pub mod Lists
+pub mod Members
+pub mod Named
+pub mod Near
+pub mod Shown
+pub mod Ways

@@ -1,0 +1,5 @@
+pub mod AtBegin
+pub mod Fitting
+pub mod Logged
+pub mod Lowers
+pub mod Rows
