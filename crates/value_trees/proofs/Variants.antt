@@ -19,7 +19,7 @@ meant_struct members = search (rules, the_lemmas)
 pub meant_enum : (index : ℕ) (v : _) → meant (Enum index v) ≡ val.enum index (meant v.value)
 meant_enum index v = search (rules, the_lemmas)
 
-pub meant_array : (vs : _) → meant (Array vs) ≡ val.array (vals_of (map meant vs.items))
+pub meant_array : (vs : _) → meant (Array vs) ≡ val.array (vals_of (map meant vs.value.items))
 meant_array vs = search (rules, the_lemmas)
 
 pub meant_boxed : (v : _) → meant (Boxed v) ≡ val.boxed (meant v.value)
@@ -51,5 +51,5 @@ list_back (v ∷ vs) = ap (λ us. v ∷ us) (list_back vs)
 pub members_meant : (members : _) → members_of (meant (Struct members)) ≡ Some (map meant members.items)
 members_meant members = ap members_of (meant_struct members) ∙ ap Some (list_back (map meant members.items))
 
-pub elements_meant : (vs : _) → elements_of (meant (Array vs)) ≡ Some (map meant vs.items)
-elements_meant vs = ap elements_of (meant_array vs) ∙ ap Some (list_back (map meant vs.items))
+pub elements_meant : (vs : _) → elements_of (meant (Array vs)) ≡ Some (map meant vs.value.items)
+elements_meant vs = ap elements_of (meant_array vs) ∙ ap Some (list_back (map meant vs.value.items))

@@ -1,11 +1,13 @@
 //! Copies of values.
 
-ghost use Rattle.std.specs.Prelude.{◌≡◌, map, IfOk};
+ghost use Rattle.std.specs.Prelude.{◌≡◌, map, option_map, IfOk};
 ghost use Rattle.value_trees.specs.Meant.{meant};
+ghost use Rattle.value_trees.specs.Parts.{elements_of};
 
 use crate::value::Value;
 use std::alloc::{AllocError, Global};
 use std::collections::VecDeque;
+use std::rc::Rc;
 
 impl Value {
     /// A copy of the value.
@@ -25,7 +27,7 @@ fn copy(value: &Value, alloc: Global) -> Result<Value, AllocError>
         Value::Int { bits, n } => Ok(Value::Int { bits: *bits, n: *n }),
         Value::Struct(members) => Ok(Value::Struct(copy_members(members, alloc)?)),
         Value::Enum { index, value } => Value::from_variant(alloc, *index, copy(value, alloc)?),
-        Value::Array(elements) => Ok(Value::Array(copy_elements(elements, alloc)?)),
+        Value::Array(elements) => Ok(Value::Array(elements.clone()?)),
         Value::Boxed(inner) => Value::in_box(alloc, copy(inner, alloc)?),
         Value::Dict(words) => Ok(Value::Dict(words.copy()?)),
         Value::Entry { dict, key } => Ok(Value::Entry {
@@ -50,7 +52,7 @@ fn copy_members(members: &Vec<Value>, alloc: Global) -> Result<Vec<Value>, Alloc
     Ok(copies)
 }
 
-#[cycle(copy)]
+/// Copies of the elements, in a list of their own.
 fn copy_elements(elements: &VecDeque<Value>, alloc: Global) -> Result<VecDeque<Value>, AllocError>
     ensures { IfOk result (λ vs. map meant vs.items ≡ map meant elements.now.items) }
 {
@@ -59,4 +61,27 @@ fn copy_elements(elements: &VecDeque<Value>, alloc: Global) -> Result<VecDeque<V
         copies.push_back(copy(element, alloc)?)?;
     }
     Ok(copies)
+}
+
+impl Value {
+    /// The elements, where this is an array. They are copied only if another value shares them, each element as `copy` copies it.
+    #[tactic(auto, using(crate::proofs::Variants::elements_meant))]
+    pub fn into_elements(self, alloc: Global) -> Result<Option<VecDeque<Value>>, AllocError>
+        ensures { IfOk result (λ r. option_map (λ vs. map meant vs.items) r ≡ elements_of (meant self)) }
+    {
+        match self {
+            Value::Array(elements) => Ok(Some(unshared(elements, alloc)?)),
+            _ => Ok(None),
+        }
+    }
+}
+
+/// The elements behind the pointer: moved out if it is the last one to them, else copied.
+fn unshared(elements: Rc<VecDeque<Value>>, alloc: Global) -> Result<VecDeque<Value>, AllocError>
+    ensures { IfOk result (λ vs. map meant vs.items ≡ map meant elements.value.items) }
+{
+    match Rc::try_unwrap(elements) {
+        Ok(elements) => Ok(elements),
+        Err(elements) => copy_elements(&elements, alloc),
+    }
 }

@@ -11,6 +11,7 @@ use crate::words::Words;
 use felt64::Felt;
 use std::alloc::{AllocError, Global};
 use std::collections::VecDeque;
+use std::rc::Rc;
 use type_trees::Num;
 
 /// A value of a Sierra type. A snapshot has the values of its type.
@@ -34,8 +35,9 @@ pub enum Value {
         /// Its payload.
         value: Box<Value>,
     },
-    /// The elements of an array, in order. It loses its first element and gains a last one without moving the others.
-    Array(VecDeque<Value>),
+    /// The elements of an array, in order. Copies of the value share them, and they are copied only where they are shared and
+    /// taken out.
+    Array(Rc<VecDeque<Value>>),
     /// A boxed value.
     Boxed(Box<Value>),
     /// A dictionary.
@@ -98,10 +100,10 @@ impl Value {
     }
 
     /// An array of these elements.
-    pub fn from_elements(elements: VecDeque<Value>) -> Value
-        ensures { meant result ≡ val.array (vals_of (map meant elements.items)) }
+    pub fn from_elements(alloc: Global, elements: VecDeque<Value>) -> Result<Value, AllocError>
+        ensures { IfOk result (λ v. meant v ≡ val.array (vals_of (map meant elements.items))) }
     {
-        Value::Array(elements)
+        Ok(Value::Array(Rc::new(alloc, elements)?))
     }
 
     /// A value in a box.
@@ -138,7 +140,7 @@ impl Value {
         ensures { option_map (λ vs. map meant vs.now.items) result ≡ elements_of (meant self.now) }
     {
         match self {
-            Value::Array(elements) => Some(elements),
+            Value::Array(elements) => Some(&**elements),
             _ => None,
         }
     }
@@ -160,17 +162,6 @@ impl Value {
     {
         match self {
             Value::Enum { index, value } => Some((index, Box::into_inner(value))),
-            _ => None,
-        }
-    }
-
-    /// The elements, where this is an array.
-    #[tactic(auto, using(crate::proofs::Variants::elements_meant))]
-    pub fn into_elements(self) -> Option<VecDeque<Value>>
-        ensures { option_map (λ vs. map meant vs.items) result ≡ elements_of (meant self) }
-    {
-        match self {
-            Value::Array(elements) => Some(elements),
             _ => None,
         }
     }

@@ -1,10 +1,6 @@
-use Rattle.std.proofs.Common.{◌≡◌, ◌++◌, map, take}
-use Rattle.std.specs.VecDeque.Iter.{deque_iter_rest}
+use Rattle.std.proofs.Common.{◌≡◌, map, take}
 use Rattle.value_trees.specs.Meant.{meant}
 use Rattle.value_trees.proofs.copying.+copy.Given as goal
-
-abbrev pub invariant-copy_elements-loop-element : goal.invariant-copy_elements-loop-element
-invariant-copy_elements-loop-element l = map meant l.copies.items ++ map meant (deque_iter_rest l.element-iterator) ≡ map meant l.elements.items
 
 abbrev pub invariant-copy_members-loop-member : goal.invariant-copy_members-loop-member
 invariant-copy_members-loop-member l = map meant l.copies.items ≡ map meant (take l.member-index l.member-items)
