@@ -83,7 +83,7 @@ fn applied(
         IntoBox(_) => data::boxed(alloc, values),
         Unbox(_) => data::unboxed(values),
         ArrayNew(_) => arrays::array_new(alloc, values),
-        ArrayAppend(_) => arrays::array_append(values),
+        ArrayAppend(_) => arrays::array_append(alloc, values),
         ArrayLen(_) => arrays::array_len(values),
         ArrayGet(_) => arrays::array_get(alloc, values),
         ArrayPopFront(_) => arrays::array_pop_front(alloc, values),

@@ -22,19 +22,22 @@ pub(crate) fn array_new(
     requires { ArePlain [] (map meant values.items) }
     ensures { (ty : Ty) → IfOk result (IsAnswer (arrays_does (registry.array_new ty) (map meant values.items))) }
 {
-    let made = Value::from_elements(VecDeque::new(alloc));
+    let made = Value::from_elements(alloc, VecDeque::new(alloc))?;
     Ok((0, behind(values, 0, made)?))
 }
 
 /// The array with one more element behind.
-pub(crate) fn array_append(values: Vec<Value>) -> Result<(usize, Vec<Value>), AllocError>
+pub(crate) fn array_append(
+    alloc: Global,
+    values: Vec<Value>,
+) -> Result<(usize, Vec<Value>), AllocError>
     requires { (ty : Ty) × ArePlain (array ty ∷ ty ∷ []) (map meant values.items) }
     ensures { (ty : Ty) → IfOk result (IsAnswer (arrays_does (registry.array_append ty) (map meant values.items))) }
 {
     let mut values = values;
     let last = take_last(&mut values);
-    let elements = take_last(&mut values).into_elements().unwrap();
-    let made = Value::from_elements(append(elements, last)?);
+    let elements = take_last(&mut values).into_elements(alloc)?.unwrap();
+    let made = Value::from_elements(alloc, append(elements, last)?)?;
     Ok((0, behind(values, 0, made)?))
 }
 
@@ -44,8 +47,7 @@ pub(crate) fn array_len(values: Vec<Value>) -> Result<(usize, Vec<Value>), Alloc
     requires short { (ty : Ty) → IsCountedArrays (registry.array_len ty) (map meant values.items) }
     ensures { (ty : Ty) → IfOk result (IsAnswer (arrays_does (registry.array_len ty) (map meant values.items))) }
 {
-    let mut values = values;
-    let elements = take_last(&mut values).into_elements().unwrap();
+    let elements = values[0].as_elements().unwrap();
     let count = Value::from_number(Num::U32, elements.len() as u64);
     Ok((0, behind(values, 0, count)?))
 }
@@ -77,9 +79,9 @@ pub(crate) fn array_pop_front(
     ensures { (ty : Ty) → IfOk result (IsAnswer (arrays_does (registry.array_pop_front ty) (map meant values.items))) }
 {
     let mut values = values;
-    let mut elements = take_last(&mut values).into_elements().unwrap();
+    let mut elements = take_last(&mut values).into_elements(alloc)?.unwrap();
     let first = pop_first(&mut elements);
-    let values = behind(values, 0, Value::from_elements(elements))?;
+    let values = behind(values, 0, Value::from_elements(alloc, elements)?)?;
     match first {
         Some(first) => Ok((0, behind(values, 1, Value::in_box(alloc, first)?)?)),
         None => Ok((1, values)),

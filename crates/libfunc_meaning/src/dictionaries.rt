@@ -111,7 +111,7 @@ fn listed(alloc: Global, num: Num, words: Words) -> Result<Value, AllocError>
     ensures { IfOk result (λ v. meant v ≡ val.array (vals_of (map (dictionaries.entry_of num) (finite.entries words)))) }
 {
     let pairs = words.pairs(alloc)?;
-    Ok(Value::from_elements(accesses(alloc, num, &pairs)?))
+    Value::from_elements(alloc, accesses(alloc, num, &pairs)?)
 }
 
 /// An access for each key with its word.
