@@ -188,10 +188,10 @@ fn array_within(
     byte(rest, b'[')?;
     if is_next(rest, b']') {
         byte(rest, b']')?;
-        return Ok(Value::from_elements(VecDeque::new(alloc)));
+        return Ok(Value::from_elements(alloc, VecDeque::new(alloc))?);
     }
     let elements = elements(alloc, types, item, start, rest)?;
-    Ok(Value::from_elements(elements))
+    Ok(Value::from_elements(alloc, elements)?)
 }
 
 /// The elements of an array that begins at `start`, up to its end.
