@@ -29,7 +29,7 @@ fn of_each_form(alloc: Global) -> Result<Value, AllocError> {
     members.push(Value::from_number(Num::U8, 255))?;
     members.push(Value::from_number(Num::U16, 256))?;
     members.push(Value::from_number(Num::U32, 65536))?;
-    members.push(Value::from_elements(numbers(alloc, &[1, 2])?))?;
+    members.push(Value::from_elements(alloc, numbers(alloc, &[1, 2])?)?)?;
     members.push(Value::from_variant(alloc, 3, Value::Check)?)?;
     members.push(Value::in_box(alloc, Value::Empty)?)?;
     members.push(Value::Dict(words(alloc)?))?;
@@ -93,9 +93,10 @@ fn takes_apart(rt: HostRuntime) -> Result<(), Fail> {
 
 #[test]
 fn arrays_lose_the_first_and_gain_a_last(rt: HostRuntime) -> Result<(), Fail> {
-    let array = Value::from_elements(numbers(rt.alloc(), &[4, 5])?);
+    let array = Value::from_elements(rt.alloc(), numbers(rt.alloc(), &[4, 5])?)?;
     assert_eq!(rt; array.as_elements().map(|elements| elements.len()), Some(2));
-    let Some(mut elements) = array.into_elements() else {
+    let copy = array.copy(rt.alloc())?;
+    let Some(mut elements) = array.into_elements(rt.alloc())? else {
         return Ok(assert!(rt; false));
     };
     for (first, more) in [(4, 6), (5, 7), (6, 8), (7, 9)] {
@@ -110,5 +111,13 @@ fn arrays_lose_the_first_and_gain_a_last(rt: HostRuntime) -> Result<(), Fail> {
     drop(pop_first(&mut elements));
     drop(pop_first(&mut elements));
     assert!(rt; pop_first(&mut elements).is_none());
+    let elements = copy.into_elements(rt.alloc())?;
+    assert_eq!(rt;
+        elements
+            .as_ref()
+            .and_then(|elements| element(elements, 1))
+            .and_then(|v| v.as_gas()),
+        Some(5)
+    );
     Ok(())
 }
