@@ -1,5 +1,7 @@
 pub mod ByType
 pub mod Growth
+pub mod LaidLaws
+pub mod LaidSteps
 pub mod Logs
 pub mod Once
 pub mod ShowLaws

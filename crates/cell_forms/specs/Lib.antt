@@ -1,4 +1,5 @@
 pub mod Growing
+pub mod Laying
 pub mod LogStands
 pub mod Showing
 pub mod Standing
