@@ -83,7 +83,7 @@ module _ (m : ℕ → Option ℕ) where
         let (long, stands) = laid_variant (1 + greatest_size tys) tys plain flat h.0 h.1 (omega arith) h.3 in
         let cells_long : length (read ws) ≡ length ws = length-map ws (λ n. Some n) in
         subst (λ w. PlainStands zeros m (enum name tys) (read (laid w (enum name tys))) w) (sym h.2)
-            (h.0, h.1, refl, omega (arith, cells_long, long), refl, stands)
+        (h.0, h.1, refl, omega (arith, cells_long, long), refl, stands)
     laid_stands (nonzero k) plain flat v h = absurd (true≢false (sym plain))
     laid_stands range_check plain flat v h = absurd (true≢false (sym plain))
     laid_stands gas_builtin plain flat v h = absurd (true≢false (sym plain))

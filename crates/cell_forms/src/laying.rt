@@ -40,12 +40,7 @@ pub fn lay(
 /// The words of a value.
 #[cycle(lay)]
 #[tactic(auto, unfolding(crate::specs::Laying::laid))]
-fn push_value(
-    words: &mut Vec<Felt>,
-    value: &Value,
-    t: &Types,
-    ty: TypeId,
-) -> Result<(), AllocError>
+fn push_value(words: &mut Vec<Felt>, value: &Value, t: &Types, ty: TypeId) -> Result<(), AllocError>
     requires { ty.0 < length t.now.rows }
     ensures { OnOk result (words.new.items ≡ words.old.items ++ laid (meant value.now) (tree_of t.now ty.0)) }
 {
@@ -77,10 +72,27 @@ fn push_variant(
     }
     let variant = variants[index as usize];
     let taken = 1 + t.info(variant).size as u64;
-    push_padding(words, (t.info(ty).size as u64).saturating_sub(taken))?;
-    push_value(words, payload, t, variant)
+    let padding = (t.info(ty).size as u64).saturating_sub(taken);
+    push_payload(words, padding, payload, t, variant)
 }
 
+/// So many words of padding, and behind them those of a payload.
+#[cycle(lay)]
+fn push_payload(
+    words: &mut Vec<Felt>,
+    padding: u64,
+    payload: &Value,
+    t: &Types,
+    ty: TypeId,
+) -> Result<(), AllocError>
+    requires { ty.0 < length t.now.rows }
+    ensures { OnOk result (words.new.items ≡ (words.old.items ++ replicate padding 0) ++ laid (meant payload.now) (tree_of t.now ty.0)) }
+{
+    push_padding(words, padding)?;
+    push_value(words, payload, t, ty)
+}
+
+/// One word more.
 fn push_word(words: &mut Vec<Felt>, word: Felt) -> Result<(), AllocError>
     ensures { OnOk result (words.new.items ≡ words.old.items ++ word ∷ []) }
 {

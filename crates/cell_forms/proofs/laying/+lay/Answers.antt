@@ -1,4 +1,4 @@
-use Rattle.std.proofs.Common.{◌≡◌, ◌++◌, ◌<◌, ◌-◌, ◌+◌, ◌==◌, false, true, OnOk, length, map, get_or, drop, sym, ap, ◌∙◌, refl, subst, arith}
+use Rattle.std.proofs.Common.{◌≡◌, ◌++◌, ◌<◌, ◌-◌, ◌+◌, ◌==◌, false, true, OnOk, length, map, get_or, drop, replicate, sym, ap, ◌∙◌, refl, subst, arith}
 use Rattle.type_trees.specs.Ty.{size}
 use Rattle.type_table.specs.View.{tree_of, trees_of, tree_at}
 use Rattle.value_trees.specs.Meant.{meant}
@@ -28,7 +28,7 @@ push_each-returns t c =
 pub push_variant-returns-then-index-variants : goal.push_variant-returns-then-index-variants
 push_variant-returns-then-index-variants t c =
     laid_alone c.args.t.now.rows c.members-variants.result.now (tree_of c.args.t.now c.args.ty.0) c.args.index c.from.result (meant c.args.payload.now) c.args.words.now.items c.push_word.new.words.items
-        c.members-variants.ensures.trees c.if-index-variants.true c.from.ensures c.in_ok-push_word.ensures
+    c.members-variants.ensures.trees c.if-index-variants.true c.from.ensures c.in_ok-push_word.ensures
 
 pub push_variant-returns : goal.push_variant-returns
 push_variant-returns t c =
@@ -36,9 +36,9 @@ push_variant-returns t c =
     let ty = tree_of c.args.t.now c.args.ty.0 in
     let variant = tree_at rows (get_or c.members-variants.result.now c.args.index record { 0 = 0 }).0 in
     let below : c.args.index < length c.members-variants.result.now = omega arith in
-    let count : c.saturating_sub.result ≡ size ty - (1 + size variant) =
-    c.saturating_sub.ensures ∙ ap (λ i. i.size - (1 + c.info.result.size)) c.info-2.ensures ∙ ap (λ i. size ty - (1 + i.size)) c.info.ensures in
-    subst (λ l. OnOk c.push_value.result (c.push_value.new.words.items ≡ l))
-        (laid_enum rows c.members-variants.result.now ty c.args.index c.from.result record { 0 = 0 } (meant c.args.payload.now) c.args.words.now.items c.push_word.new.words.items c.push_padding.new.words.items c.saturating_sub.result
-            c.members-variants.ensures.trees below c.from.ensures c.in_ok-push_word.ensures count c.in_ok-push_padding.ensures)
-        c.push_value.ensures
+    let count : c.saturating_sub-padding.result ≡ size ty - (1 + size variant) =
+    c.saturating_sub-padding.ensures ∙ ap (λ i. i.size - (1 + c.info.result.size)) c.info-2.ensures ∙ ap (λ i. size ty - (1 + i.size)) c.info.ensures in
+    subst (λ l. OnOk c.push_payload.result (c.push_payload.new.words.items ≡ l))
+    (laid_enum rows c.members-variants.result.now ty c.args.index c.from.result record { 0 = 0 } (meant c.args.payload.now) c.args.words.now.items c.push_word.new.words.items
+    (c.push_word.new.words.items ++ replicate c.saturating_sub-padding.result 0) c.saturating_sub-padding.result c.members-variants.ensures.trees below c.from.ensures c.in_ok-push_word.ensures count refl)
+    c.push_payload.ensures
