@@ -1,16 +1,15 @@
 -- What is laid as a value's words is where the value stands.
-use Rattle.std.proofs.Common.{◌≡◌, ℕ, zero, suc, ◌+◌, ◌-◌, ◌≤◌, true, false, true≢false, IsTrue, List, [], ◌∷◌, ◌++◌, map, take, drop, length, replicate, Option, Some, slice_get, refl, sym, ap, ◌∙◌, subst, arith, length-append, length-take}
+use Rattle.std.proofs.Common.{◌≡◌, ℕ, zero, suc, ◌+◌, ◌-◌, ◌≤◌, false, true≢false, IsTrue, List, [], ◌∷◌, ◌++◌, map, take, drop, length, replicate, Option, Some, slice_get, refl, sym, ap, ◌∙◌, subst, arith, length-append}
 use Rattle.std.proofs.lemmas.List.{length-map}
 use Rattle.std.specs.List.{All, AllByRecursion}
 use Rattle.std.specs.Option.{option_map_or}
 use Rattle.ro_machine.specs.Readings.{Readings}
-use Rattle.type_table.specs.Trees.{parts, listed}
+use Rattle.type_table.specs.Trees.{listed}
 use Rattle.type_table.specs.View.{RowView, tree_at, trees_at}
 use Rattle.type_table.specs.declared.type_id.TypeId.{TypeId}
-use Rattle.type_trees.specs.Ty.{Ty, Tys, number, nonzero, range_check, gas_builtin, box, array, snapshot, struct, enum, dict, dict_entry, squashed_dict, uninitialized, no_types, types, size, size_together, greatest_size, is_plain, all_plain, holds_array, any_holds_array}
+use Rattle.type_trees.specs.Ty.{Ty, Tys, number, nonzero, range_check, gas_builtin, box, array, snapshot, struct, enum, dict, dict_entry, squashed_dict, uninitialized, no_types, types, size, greatest_size, is_plain, all_plain, holds_array, any_holds_array}
 use Rattle.value_trees.specs.Of.{AreWords, IsOpenMap, IsOf, AreOf, IsOfVariant, AllOf}
 use Rattle.value_trees.specs.Val.{Plain, vals_of}
-use Rattle.value_trees.specs.Val as val
 use Rattle.cell_forms.specs.Laying.{laid, laid_each}
 use Rattle.cell_forms.specs.Stands.{StandTogether, StandsVariant}
 use Rattle.cell_forms.specs.Standing.{PlainStands, AllPlainStand, Asked, zeros}

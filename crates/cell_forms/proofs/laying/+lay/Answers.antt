@@ -1,4 +1,4 @@
-use Rattle.std.proofs.Common.{◌≡◌, ◌++◌, ◌<◌, ◌-◌, ◌+◌, ◌==◌, false, true, OnOk, length, map, get_or, drop, replicate, sym, ap, ◌∙◌, refl, subst, arith}
+use Rattle.std.proofs.Common.{◌≡◌, ◌++◌, ◌<◌, ◌-◌, ◌+◌, ◌==◌, false, OnOk, length, map, get_or, drop, replicate, sym, ap, ◌∙◌, refl, subst, arith}
 use Rattle.type_trees.specs.Ty.{size}
 use Rattle.type_table.specs.View.{tree_of, trees_of, tree_at}
 use Rattle.value_trees.specs.Meant.{meant}

@@ -1,4 +1,4 @@
-use Rattle.std.proofs.Common.{◌≡◌, ◌++◌, ℕ, [], List, Result, Ok, Err, IfOk, OnOk, Option, Some, map, subst, sym, ap, ◌∙◌}
+use Rattle.std.proofs.Common.{◌++◌, Some, map, subst, sym, ap, ◌∙◌}
 use Rattle.cell_forms.specs.Laying.{laid_each}
 use Rattle.value_trees.specs.Val.{vals_of}
 use Rattle.value_trees.specs.Meant.{meant}
