@@ -1,7 +1,9 @@
 pub mod Boxed
-pub mod Control
-pub mod Data
-pub mod Felts
+pub mod ControlLowers
+pub mod CoreLowers
+pub mod DataLowers
+pub mod FeltsLowers
 pub mod Matched
 pub mod Matches
 pub mod Moved
+pub mod TestRows

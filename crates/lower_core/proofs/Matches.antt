@@ -15,7 +15,7 @@ use Rattle.cost_table.specs.Results.{moved}
 use Rattle.cost_table.specs.Rows.{row, free, match_row}
 use Rattle.cost_table.specs.Terms.{known_change}
 use Rattle.lower_kit.specs.AtBegin.{slot_at}
-use Rattle.lower_kit.proofs.Near.{IsSmallSlot, IsSmallPlan}
+use Rattle.lower_kit.specs.Small.{IsSmallSlot, IsSmallPlan}
 use Rattle.lower_kit.proofs.Ways.{scene, Way, one_word, way_of, laid_same}
 use Rattle.lower_core.specs.Data.{matches, match_plan}
 

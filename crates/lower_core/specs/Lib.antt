@@ -2,3 +2,4 @@ pub mod Control
 pub mod Core
 pub mod Data
 pub mod Felts
+pub mod Tests

@@ -26,6 +26,7 @@ use Rattle.frag_plan.proofs.Hints.{hints_are_met}
 use Rattle.cost_table.specs.Fits.{IsClose, IsCloseSide, IsCloseExpr}
 use Rattle.cost_table.specs.Terms.{further, run, kept}
 use Rattle.lower_kit.specs.Rows.{lay_each, same_each}
+use Rattle.lower_kit.specs.Small.{IsSmallSlot, IsSmallSecond, IsSmallTerm, IsSmallLine, IsSmallPlan}
 use Rattle.lower_kit.specs.Fitting.{IsInnerNear}
 use Rattle.lower_kit.proofs.Named.{argument_close, cell_close}
 
@@ -41,41 +42,8 @@ argument_inner [] i inner = tt
 argument_inner (e ∷ args) zero inner = All-head IsInnerNear e args inner
 argument_inner (e ∷ args) (suc i) inner = argument_inner args i (All-tail IsInnerNear e args inner)
 
--- The names and numbers of a plan are small where ap has moved d cells: own cells are near ap, and arguments are named where ap
--- has moved at most 2 ^ 14 cells.
-abbrev pub IsSmallSlot : ℕ → Slot → Type 0
-IsSmallSlot d (slots.Own k) = (k ≤ d + 2 ^ 14) × (d ≤ k + 2 ^ 14)
-IsSmallSlot d (slots.Arg i) = d ≤ 2 ^ 14
-IsSmallSlot d (slots.Frame k) = k ≤ 2 ^ 14
-
-abbrev pub IsSmallSecond : ℕ → Second → Type 0
-IsSmallSecond d (seconds.Slot n) = IsSmallSlot d n
-IsSmallSecond d (seconds.Number k) = Unit {0}
-
-abbrev pub IsSmallTerm : ℕ → Term → Type 0
-IsSmallTerm d (terms.Whole i) = d ≤ 2 ^ 14
-IsSmallTerm d (terms.Cell n) = IsSmallSlot d n
-IsSmallTerm d (terms.Behind n k) = IsSmallSlot d n × (k ≤ 2 ^ 14)
-IsSmallTerm d (terms.Word k) = Unit {0}
-IsSmallTerm d (terms.Add n o) = IsSmallSlot d n × IsSmallSecond d o
-IsSmallTerm d (terms.Sub n o) = IsSmallSlot d n × IsSmallSecond d o
-IsSmallTerm d (terms.Mul n o) = IsSmallSlot d n × IsSmallSecond d o
-
-abbrev pub IsSmallLine : ℕ → Line → Type 0
-IsSmallLine d (lay t) = IsSmallTerm d t
-IsSmallLine d (reserve k) = Unit {0}
-IsSmallLine d (ask n k) = IsSmallSlot d n
-IsSmallLine d (same n t) = IsSmallSlot d n × IsSmallTerm d t
-IsSmallLine d (range p k n) = IsSmallSlot d p × (k ≤ 2 ^ 14) × IsSmallSlot d n
-
--- each line and test is small
-abbrev pub IsSmallPlan : ℕ → Plan → Type 0
-IsSmallPlan d (line a p) = IsSmallLine d a × IsSmallPlan (change_after a d) p
-IsSmallPlan d (test n p q) = IsSmallSlot d n × IsSmallPlan d p × IsSmallPlan d q
-IsSmallPlan d (exit k) = Unit {0}
-
 module _ (args : List CellExpr) (close : All IsCloseExpr args) (inner : All IsInnerNear args) where
-  slot_near : (d : ℕ) (n : Slot) → IsSmallSlot d n → IsNear (place d args n).off
+  pub slot_near : (d : ℕ) (n : Slot) → IsSmallSlot d n → IsNear (place d args n).off
   slot_near d (slots.Own k) small = let a = small.0 in let b = small.1 in omega (arith, ints, a, b)
   slot_near d (slots.Arg i) small = at_near d (at_of (argument args i)) small (cell_close (argument args i) (argument_close args i close))
   slot_near d (slots.Frame k) small = omega (arith, ints)

@@ -1,0 +1,6 @@
+use Rattle.std.proofs.Common.{◌≡◌, ◌++◌}
+use Rattle.lower_kit.specs.Pieces.{laid_piece, pieces_of}
+use Rattle.lower_kit.proofs.rows.push_laid.Given as goal
+
+abbrev pub invariant-loop-k : goal.invariant-loop-k
+invariant-loop-k l = l.frag ≡ l.initial.frag ++ pieces_of (laid_piece l.args) l.k
