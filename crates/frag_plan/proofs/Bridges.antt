@@ -52,7 +52,7 @@ module _ (m : ℕ → Option ℕ) (a fp : ℕ) (args : List CellExpr) where
     at_lowered at = ap (moved (register at.base a fp)) (raised_lowered d at.base at.off)
 
     -- a named cell keeps its address as ap moves
-    slot_is : (n : Slot) → address_after a fp d (place d args n) ≡ slot_address a fp args n
+    pub slot_is : (n : Slot) → address_after a fp d (place d args n) ≡ slot_address a fp args n
     slot_is (slots.Own k) = ap (moved a) (raised_lowered d reg.Ap (pos k))
     slot_is (slots.Arg i) = at_lowered (at_of (argument args i))
     slot_is (slots.Frame k) = refl
@@ -66,7 +66,7 @@ module _ (m : ℕ → Option ℕ) (a fp : ℕ) (args : List CellExpr) where
     both_lowered f at s = ap (λ x. both f (m x) (side_by m (address_after a fp d) (lowered_side d s))) (at_lowered at) ∙ ap (both f (m (address a fp at))) (side_lowered s)
 
     -- an argument's expression keeps its word
-    whole_is : (e : CellExpr) → word_after m a fp d (lowered d e) ≡ reading m a fp e
+    pub whole_is : (e : CellExpr) → word_after m a fp d (lowered d e) ≡ reading m a fp e
     whole_is (expr.Cell at) = ap m (at_lowered at)
     whole_is (expr.DoubleCell at inner) = ap (λ x. behind m (m x) inner) (at_lowered at)
     whole_is (expr.Imm k) = refl
@@ -74,7 +74,7 @@ module _ (m : ℕ → Option ℕ) (a fp : ℕ) (args : List CellExpr) where
     whole_is (expr.Diff at s) = both_lowered difference at s
     whole_is (expr.Product at s) = both_lowered product at s
 
-    slot_word : (n : Slot) → m (address_after a fp d (place d args n)) ≡ m (slot_address a fp args n)
+    pub slot_word : (n : Slot) → m (address_after a fp d (place d args n)) ≡ m (slot_address a fp args n)
     slot_word n = ap m (slot_is n)
 
     abbrev Holds : Slot → Type 0

@@ -1,2 +1,3 @@
+pub mod AtBegin
 pub mod Plan
 pub mod Scene
