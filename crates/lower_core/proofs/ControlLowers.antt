@@ -21,13 +21,19 @@ use Rattle.cost_table.specs.Costs.{row_of}
 use Rattle.cost_table.specs.Results.{branch_types, moved_by, result_terms}
 use Rattle.cost_table.specs.Terms.{kept}
 use Rattle.cell_forms.specs.Standing.{Padding, AllLoggedStand}
-use Rattle.lower_kit.specs.AtBegin.{at_begin}
+use Rattle.frag_plan.specs.AtBegin.{at_begin}
 use Rattle.lower_kit.specs.Fitting.{IsSmallType, Takes}
-use Rattle.lower_kit.specs.Lowers.{Counts, Shows, Lowers, change_by}
-use Rattle.lower_kit.proofs.AtOnce.{IsStill, Moves, at_once}
+use Rattle.lower_kit.specs.Counting.{Counts, change_by}
+use Rattle.lower_kit.specs.Lowers.{Shows, Lowers}
+use Rattle.felt64.specs.Field.{sum}
+use Rattle.lower_kit.specs.Counting.{TokensAre}
+use Rattle.lower_kit.proofs.AtOnce.{IsStill, Moves, Hands, at_once}
+use Rattle.lower_kit.proofs.Completed.{Sound}
+use Rattle.lower_kit.proofs.Tokens.{token_kept, one_stays, both_stay, no_token}
+use Rattle.lower_core.proofs.Stored.{temp_token, temp_whole, local_token, local_whole, locals_whole}
 use Rattle.lower_kit.proofs.Lists.{readings_long, kept_read, laid_read, framed_read, run_long, cells_long}
 use Rattle.lower_kit.proofs.Near.{formed, hints_fine, lays_small, sames_small, kept_small, kept_small_at}
-use Rattle.lower_kit.proofs.Shown.{quiet_counts, results_read, long, none_stand, one_stood, one_stands, both_stood, two_stand, whole_read}
+use Rattle.lower_kit.proofs.Shown.{quiet_counts, results_read, long, none_stand, one_stood, one_stands, both_stood, two_stand, whole_read, all_kept_read}
 use Rattle.lower_kit.proofs.Ways.{Way, arguments_at, way_of, lays, sames, lays_no_jump, sames_no_jump, lays_met, sames_met, all_cells, arguments_read}
 use Rattle.lower_kit.specs.Rows.{lay_each, same_each}
 use Rattle.lower_core.specs.Control.{control_plan}
@@ -76,6 +82,28 @@ module _ (d : Dictionary Log OpenLog) (args : List CellExpr) (amount : ℕ) wher
             (subst (λ ts. AllLoggedStand padding m [] (map (at_begin m ap_ fp args) ts) []) (sym no_terms) (none_stand padding m)),
       )
 
+  -- all of the argument's cells, as they are
+  whole_many : (ty : Ty) → length args ≡ 0 + size ty → length args ≡ size ty
+  whole_many ty many = omega (arith, many)
+
+  rename_hands : (ty : Ty) → Takes (control (controls.rename ty)) args amount → Hands d (control (controls.rename ty)) args amount
+  rename_hands ty taken m ap_ fp w small is =
+      let cells = readings m ap_ fp args in
+      let many = whole_many ty taken.fit.many in
+      let whole : length cells ≡ size ty = readings_long m ap_ fp args ∙ many in
+      subst (λ c. TokensAre (sum w 0) (ty ∷ []) c) (sym (all_kept_read m ap_ fp args (size ty) many)) (one_stays (sum w 0) ty cells whole (token_kept w ty cells small whole is))
+
+  dup_hands : (ty : Ty) → Takes (control (controls.dup ty)) args amount → Hands d (control (controls.dup ty)) args amount
+  dup_hands ty taken m ap_ fp w small is =
+      let cells = readings m ap_ fp args in
+      let many = whole_many ty taken.fit.many in
+      let whole : length cells ≡ size ty = readings_long m ap_ fp args ∙ many in
+      let read = all_kept_read m ap_ fp args (size ty) many in
+      let token = token_kept w ty cells small whole is in
+      subst (λ c. TokensAre (sum w 0) (ty ∷ ty ∷ []) c)
+      (sym (map-append (at_begin m ap_ fp args) (kept 0 (size ty)) (kept 0 (size ty)) ∙ ap (λ c. c ++ map (at_begin m ap_ fp args) (kept 0 (size ty))) read ∙ ap (λ c. cells ++ c) read))
+      (both_stay (sum w 0) ty ty cells cells whole whole token token)
+
   module _ (ty : Ty) where
     temp : Plan
     temp = lay_each (kept 0 (size ty)) (exit 0)
@@ -99,7 +127,7 @@ module _ (d : Dictionary Log OpenLog) (args : List CellExpr) (amount : ℕ) wher
     temp_lowers : Takes (control (controls.store_temp ty)) args amount → Lowers d (control (controls.store_temp ty)) args amount (fragment args temp)
     unfolding temp
     temp_lowers taken =
-        let few : size ty ≤ 2 ^ 14 = All-head IsSmallType ty [] taken.small in
+        let few : size ty ≤ 2 ^ 14 = All-head IsSmallType ty [] taken.declared.small in
         let many : length (kept 0 (size ty)) ≡ size ty = run_long (terms.Whole 0) (size ty) in
         let met = lays_met (kept 0 (size ty)) (exit 0) refl in
         let small = lays_small 0 (kept 0 (size ty)) (exit 0) (omega (arith, few, many)) (kept_small 0 (size ty)) tt in
@@ -107,7 +135,10 @@ module _ (d : Dictionary Log OpenLog) (args : List CellExpr) (amount : ℕ) wher
           form = formed args taken.fit.close taken.inner temp met small;
           hints = hints_fine args taken.fit.close taken.inner temp met;
           counts = λ m ap_ fp k end evaluation. temp_counts m ap_ fp k end (temp_ends m ap_ fp k end evaluation);
-          sound = λ padding m ap_ fp k end vs in_field stand room evaluation checked. temp_shows few taken padding m ap_ fp k end vs stand (temp_ends m ap_ fp k end evaluation);
+          sound = temp_sound;
+          token = λ m ap_ fp k pointer end evaluation pointer_small is.
+              let ends = temp_ends m ap_ fp k end evaluation in temp_token d args amount ty taken few m ap_ fp k pointer end ends.0 ends.2 ends.4 pointer_small is;
+          whole = λ r m ap_ fp k vs outs in_field stand room does free knows fresh. temp_whole d args amount ty taken temp_sound r m ap_ fp k vs outs in_field stand room does free;
         } where
           temp_counts : (m : ℕ → Option ℕ) (ap_ fp k : ℕ) (end : Tally)
               → (k ≡ 0) × (end.steps ≡ size ty) × (end.change ≡ size ty) × (end.named ≡ []) × (cells_at m ap_ 0 (size ty) ≡ map (at_begin m ap_ fp args) (kept 0 (size ty)))
@@ -129,6 +160,11 @@ module _ (d : Dictionary Log OpenLog) (args : List CellExpr) (amount : ℕ) wher
                 means = ap (λ us. control_does (controls.store_temp ty) us) one.1;
                 stand = subst (λ c. AllLoggedStand padding m (ty ∷ []) c (one.0 ∷ [])) (sym same) (one_stood padding m ty (readings m ap_ fp args) one.0 one.2);
               }
+
+          temp_sound : Sound d (control (controls.store_temp ty)) args amount (fragment args temp)
+          temp_sound padding m ap_ fp k end vs in_field stand room evaluation checked =
+              let few : size ty ≤ 2 ^ 14 = All-head IsSmallType ty [] taken.declared.small in
+              temp_shows few taken padding m ap_ fp k end vs stand (temp_ends m ap_ fp k end evaluation)
 
     abbrev store_fam : Fam
     store_fam = control (controls.store_local ty)
@@ -196,8 +232,13 @@ module _ (d : Dictionary Log OpenLog) (args : List CellExpr) (amount : ℕ) wher
           form = formed args taken.fit.close taken.inner local met small;
           hints = hints_fine args taken.fit.close taken.inner local met;
           counts = λ m ap_ fp k end evaluation. local_counts m ap_ fp k end (local_ends m ap_ fp k end evaluation);
-          sound = λ padding m ap_ fp k end vs in_field stand room evaluation checked. local_shows taken padding m ap_ fp k end vs stand (local_ends m ap_ fp k end evaluation);
-        }
+          sound = local_sound;
+          token = λ m ap_ fp k pointer end evaluation pointer_small is.
+              let ends = local_ends m ap_ fp k end evaluation in local_token d args amount ty taken m ap_ fp k pointer end ends.branch ends.change ends.read pointer_small is;
+          whole = λ r m ap_ fp k vs outs in_field stand room does free knows fresh. local_whole d args amount ty taken local_sound r m ap_ fp k vs outs in_field stand room does free;
+        } where
+          local_sound : Sound d store_fam args amount (fragment args local)
+          local_sound padding m ap_ fp k end vs in_field stand room evaluation checked = local_shows taken padding m ap_ fp k end vs stand (local_ends m ap_ fp k end evaluation)
 
   abbrev finalize_fam : Fam
   finalize_fam = control controls.finalize_locals
@@ -231,26 +272,30 @@ module _ (d : Dictionary Log OpenLog) (args : List CellExpr) (amount : ℕ) wher
     form = formed args taken.fit.close taken.inner locals refl (tt, tt);
     hints = hints_fine args taken.fit.close taken.inner locals refl;
     counts = λ m ap_ fp k end evaluation. locals_counts m ap_ fp k end (locals_ends m ap_ fp k end evaluation);
-    sound = λ padding m ap_ fp k end vs in_field stand room evaluation checked. locals_shows padding m ap_ fp k end vs stand (locals_ends m ap_ fp k end evaluation).0;
-  }
+    sound = locals_sound;
+    token = λ m ap_ fp k pointer end evaluation small is. absurd (no_token pointer is);
+    whole = λ r m ap_ fp k vs outs in_field stand room does free knows fresh. locals_whole d args amount locals_sound r m ap_ fp k vs outs in_field stand room does;
+  } where
+    locals_sound : Sound d finalize_fam args amount (fragment args locals)
+    locals_sound padding m ap_ fp k end vs in_field stand room evaluation checked = locals_shows padding m ap_ fp k end vs stand (locals_ends m ap_ fp k end evaluation).0
 
   still : (fam : ControlFam) → change_by amount (control fam) 0 ≡ 0 → moved_by (control fam) 0 ≡ 0 → (row_of (control fam) 0).checks ≡ 0
       → IsStill d (control fam) args amount
-  still fam change moved checks = record { change = change; moved = moved; checks = checks }
+  still fam change moved checks = record { unlogged = tt; change = change; moved = moved; checks = checks }
 
   pub control_lowers : (fam : ControlFam) → Takes (control fam) args amount → Lowers d (control fam) args amount (fragment args (control_plan amount fam))
   unfolding temp local locals
   control_lowers controls.branch_align taken =
-      at_once d (control controls.branch_align) args amount taken (still controls.branch_align refl refl refl) (nothing_moves controls.branch_align refl refl refl refl)
-  control_lowers controls.jump taken = at_once d (control controls.jump) args amount taken (still controls.jump refl refl refl) (nothing_moves controls.jump refl refl refl refl)
-  control_lowers (controls.rename ty) taken = at_once d (control (controls.rename ty)) args amount taken (still (controls.rename ty) refl refl refl) (rename_moves ty)
-  control_lowers (controls.dup ty) taken = at_once d (control (controls.dup ty)) args amount taken (still (controls.dup ty) refl refl refl) (dup_moves ty)
-  control_lowers (controls.drop ty) taken = at_once d (control (controls.drop ty)) args amount taken (still (controls.drop ty) refl refl refl) (drop_moves ty)
+      at_once d (control controls.branch_align) args amount taken (still controls.branch_align refl refl refl) (nothing_moves controls.branch_align refl refl refl refl) (λ m ap_ fp w small is. tt)
+  control_lowers controls.jump taken = at_once d (control controls.jump) args amount taken (still controls.jump refl refl refl) (nothing_moves controls.jump refl refl refl refl) (λ m ap_ fp w small is. tt)
+  control_lowers (controls.rename ty) taken = at_once d (control (controls.rename ty)) args amount taken (still (controls.rename ty) refl refl refl) (rename_moves ty) (rename_hands ty taken)
+  control_lowers (controls.dup ty) taken = at_once d (control (controls.dup ty)) args amount taken (still (controls.dup ty) refl refl refl) (dup_moves ty) (dup_hands ty taken)
+  control_lowers (controls.drop ty) taken = at_once d (control (controls.drop ty)) args amount taken (still (controls.drop ty) refl refl refl) (drop_moves ty) (λ m ap_ fp w small is. tt)
   control_lowers (controls.store_temp ty) taken = temp_lowers ty taken
   control_lowers (controls.store_local ty) taken = local_lowers ty taken
-  control_lowers (controls.alloc_local ty) taken = at_once d (control (controls.alloc_local ty)) args amount taken (still (controls.alloc_local ty) refl refl refl) (alloc_moves ty)
+  control_lowers (controls.alloc_local ty) taken = at_once d (control (controls.alloc_local ty)) args amount taken (still (controls.alloc_local ty) refl refl refl) (alloc_moves ty) (λ m ap_ fp w small is. (tt, tt))
   control_lowers controls.finalize_locals taken = locals_lowers taken
   control_lowers controls.disable_ap_tracking taken =
-      at_once d (control controls.disable_ap_tracking) args amount taken (still controls.disable_ap_tracking refl refl refl) (nothing_moves controls.disable_ap_tracking refl refl refl refl)
+      at_once d (control controls.disable_ap_tracking) args amount taken (still controls.disable_ap_tracking refl refl refl) (nothing_moves controls.disable_ap_tracking refl refl refl refl) (λ m ap_ fp w small is. tt)
   control_lowers controls.enable_ap_tracking taken =
-      at_once d (control controls.enable_ap_tracking) args amount taken (still controls.enable_ap_tracking refl refl refl) (nothing_moves controls.enable_ap_tracking refl refl refl refl)
+      at_once d (control controls.enable_ap_tracking) args amount taken (still controls.enable_ap_tracking refl refl refl) (nothing_moves controls.enable_ap_tracking refl refl refl refl) (λ m ap_ fp w small is. tt)

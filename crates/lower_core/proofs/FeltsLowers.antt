@@ -9,7 +9,7 @@ use Rattle.casm_word.specs.declared.cell_expr.CellExpr.{CellExpr}
 use Rattle.casm_word.specs.declared.cell_expr.CellExpr.TheVariants as expr
 use Rattle.casm_steps.specs.Reading.{address, reading, readings}
 use Rattle.casm_steps.proofs.Readings.{both_is}
-use Rattle.frag_code.specs.Evaluation.{Tally, Evaluation}
+use Rattle.frag_code.specs.Evaluation.{Tally, Evaluation, nothing, step_on}
 use Rattle.cell_terms.specs.declared.term.Slot.TheVariants as slots
 use Rattle.cell_terms.specs.Resolving.{at_of, argument}
 use Rattle.frag_plan.specs.Plan.{Plan, test, exit, fragment}
@@ -23,11 +23,23 @@ use Rattle.libfunc_meaning.specs.Felts.{felts_does}
 use Rattle.cost_table.specs.declared.mark.Mark.TheVariants as marks
 use Rattle.cost_table.specs.Marks.{is_cell, is_cell_or_number, MeetMarks}
 use Rattle.cost_table.specs.Terms.{operand, operand_of}
+use Rattle.std.specs.FinMap.{get}
+use Rattle.std.proofs.lemmas.Bool.{cases_eq}
+use Rattle.ro_machine.specs.Cells.{Cells}
+use Rattle.ro_machine.specs.Memory.{IsMemory}
+use Rattle.hint_source.specs.Remembered.{Remembered}
+use Rattle.frag_fills.specs.Filling.{Filled}
+use Rattle.frag_fills.proofs.Lines.{plan_filling}
+use Rattle.libfunc_meaning.specs.Do.{Do}
+use Rattle.lower_kit.proofs.Completed.{one_branch, Sound, quietly}
+use Rattle.lower_kit.proofs.Free.{not_grown}
+use Rattle.lower_kit.proofs.Tokens.{no_token}
 use Rattle.cell_forms.proofs.Once.{both_true}
-use Rattle.cell_forms.specs.Standing.{Padding, AllLoggedStand}
-use Rattle.lower_kit.specs.AtBegin.{slot_at, second_at}
+use Rattle.cell_forms.specs.Standing.{Padding, listed, AllLoggedStand}
+use Rattle.frag_plan.specs.AtBegin.{slot_at, second_at}
 use Rattle.lower_kit.specs.Fitting.{Takes}
-use Rattle.lower_kit.specs.Lowers.{Counts, Shows, Lowers}
+use Rattle.lower_kit.specs.Counting.{Counts}
+use Rattle.lower_kit.specs.Lowers.{HasRoom, Completes, Shows, Lowers}
 use Rattle.lower_kit.proofs.AtOnce.{Moves, at_once}
 use Rattle.lower_kit.proofs.Near.{formed, hints_fine}
 use Rattle.lower_kit.proofs.Shown.{quiet_counts, results_read, none_stand, one_stood, one_stands, two_stand, first_read}
@@ -174,22 +186,52 @@ module _ (d : Dictionary Log OpenLog) (amount : ℕ) where
               }
         ]
 
+    zero_whole : Takes zero_fam args amount → Sound d zero_fam args amount (fragment args zero_plan) → (r : Remembered) (m : Cells) (ap_ fp k : ℕ) (vs outs : List Logged) → IsMemory (get m)
+        → AllLoggedStand listed (get m) (number num ∷ []) (readings (get m) ap_ fp args) vs → HasRoom zero_fam vs → Do d zero_fam vs amount k outs
+        → Completes d r m ap_ fp zero_fam args amount vs k (fragment args zero_plan)
+    unfolding zero_plan
+    zero_whole taken sound r m ap_ fp k vs outs in_field stand room does =
+        let one = one_stands listed (get m) (number num) (readings (get m) ap_ fp args) vs stand in
+        let n = one.2.0 in
+        let read : reading (get m) ap_ fp (argument args 0) ≡ Some n = first_read (get m) ap_ fp n args one.2.1 in
+        let many : length args ≡ 1 = taken.fit.many in
+        let cell = all_cells 1 args taken.fit.marked.0 0 (omega arith) (omega (arith, many)) in
+        let here : slot_at (get m) ap_ fp args (slots.Arg 0) ≡ Some n = is_read (get m) ap_ fp args (argument args 0) cell ∙ read in
+        let value : vs ≡ val.number num n ∷ [] = one.1 ∙ ap (λ v. v ∷ []) one.2.2.0 in
+        let z : Filled = record { end = step_on (step_on nothing); remembered = r; cells = m } in
+        elim (cases_eq n 0) [
+          | inl none ↦
+              let branch = one_branch d zero_fam vs amount 0 k [] outs tt (ap (λ us. felts_does (is_zero num) us) value ∙ ap (λ i. felts_does {D = Log} {E = OpenLog} (is_zero num) (val.number num i ∷ [])) none) does in
+              let filling = plan_filling args zero_plan ap_ fp 0 r m z (n, here, inl (none, (refl, refl))) in
+              subst (λ j. Completes d r m ap_ fp zero_fam args amount vs j (fragment args zero_plan)) branch
+              (quietly d zero_fam args amount (fragment args zero_plan) sound r m ap_ fp 0 vs in_field stand room z filling (not_grown m _) refl)
+          | inr some ↦
+              let branch = one_branch d zero_fam vs amount 1 k (val.number num n ∷ []) outs tt (ap (λ us. felts_does (is_zero num) us) value ∙ ap (λ b. if b then Some (0, []) else Some (1, val.number num n ∷ [])) (ne_eqb n 0 some)) does in
+              let filling = plan_filling args zero_plan ap_ fp 1 r m z (n, here, inr (some, (refl, refl))) in
+              subst (λ j. Completes d r m ap_ fp zero_fam args amount vs j (fragment args zero_plan)) branch
+              (quietly d zero_fam args amount (fragment args zero_plan) sound r m ap_ fp 1 vs in_field stand room z filling (not_grown m _) refl)
+        ]
+
     zero_lowers : Takes zero_fam args amount → Lowers d zero_fam args amount (fragment args zero_plan)
     unfolding zero_plan
     zero_lowers taken = record {
       form = formed args taken.fit.close taken.inner zero_plan refl (omega arith, tt, tt);
       hints = hints_fine args taken.fit.close taken.inner zero_plan refl;
       counts = λ m ap_ fp k end evaluation. zero_counts m ap_ fp k end (zero_ends m ap_ fp k end evaluation);
-      sound = λ padding m ap_ fp k end vs in_field stand room evaluation checked. zero_shows taken padding m ap_ fp k end vs stand (zero_ends m ap_ fp k end evaluation);
-    }
+      sound = zero_sound;
+      token = λ m ap_ fp k pointer end evaluation small is. absurd (no_token pointer is);
+      whole = λ r m ap_ fp k vs outs in_field stand room does free knows fresh. zero_whole taken zero_sound r m ap_ fp k vs outs in_field stand room does;
+    } where
+      zero_sound : Sound d zero_fam args amount (fragment args zero_plan)
+      zero_sound padding m ap_ fp k end vs in_field stand room evaluation checked = zero_shows taken padding m ap_ fp k end vs stand (zero_ends m ap_ fp k end evaluation)
 
   pub felts_lowers : (args : List CellExpr) (fam : FeltsFam) → Takes (felts fam) args amount → Lowers d (felts fam) args amount (fragment args (felts_plan fam))
   unfolding zero_plan
   felts_lowers args (const k n) taken =
-      at_once d (felts (const k n)) args amount taken (record { change = refl; moved = refl; checks = refl }) (const_moves args k n taken.proper)
-  felts_lowers args felt64_add taken = at_once d (felts felt64_add) args amount taken (record { change = refl; moved = refl; checks = refl }) (add_moves args taken)
-  felts_lowers args felt64_sub taken = at_once d (felts felt64_sub) args amount taken (record { change = refl; moved = refl; checks = refl }) (sub_moves args taken)
-  felts_lowers args felt64_mul taken = at_once d (felts felt64_mul) args amount taken (record { change = refl; moved = refl; checks = refl }) (mul_moves args taken)
+      at_once d (felts (const k n)) args amount taken (record { unlogged = tt; change = refl; moved = refl; checks = refl }) (const_moves args k n taken.declared.proper) (λ m ap_ fp w small is. (tt, tt))
+  felts_lowers args felt64_add taken = at_once d (felts felt64_add) args amount taken (record { unlogged = tt; change = refl; moved = refl; checks = refl }) (add_moves args taken) (λ m ap_ fp w small is. (tt, tt))
+  felts_lowers args felt64_sub taken = at_once d (felts felt64_sub) args amount taken (record { unlogged = tt; change = refl; moved = refl; checks = refl }) (sub_moves args taken) (λ m ap_ fp w small is. (tt, tt))
+  felts_lowers args felt64_mul taken = at_once d (felts felt64_mul) args amount taken (record { unlogged = tt; change = refl; moved = refl; checks = refl }) (mul_moves args taken) (λ m ap_ fp w small is. (tt, tt))
   felts_lowers args (is_zero k) taken = zero_lowers args k taken
   felts_lowers args (unwrap_non_zero k) taken =
-      at_once d (felts (unwrap_non_zero k)) args amount taken (record { change = refl; moved = refl; checks = refl }) (unwrap_moves args k)
+      at_once d (felts (unwrap_non_zero k)) args amount taken (record { unlogged = tt; change = refl; moved = refl; checks = refl }) (unwrap_moves args k) (λ m ap_ fp w small is. (tt, tt))

@@ -6,4 +6,6 @@ pub mod FeltsLowers
 pub mod Matched
 pub mod Matches
 pub mod Moved
+pub mod MatchFilled
+pub mod Stored
 pub mod TestRows

@@ -1,5 +1,5 @@
 -- Matches of enums, and of snapshots of enums, meet the lowering contract.
-use Rattle.std.proofs.Common.{◌≡◌, ℕ, zero, suc, ◌+◌, ◌-◌, ◌<◌, ◌≤◌, ◌^◌, true, Option, Some, List, [], ◌∷◌, map, take, drop, length, refl, sym, ap, ◌∙◌, subst, arith, length-drop, drop-drop}
+use Rattle.std.proofs.Common.{◌≡◌, ℕ, zero, suc, ◌+◌, ◌-◌, ◌<◌, ◌≤◌, ◌^◌, min, true, Option, Some, List, [], ◌∷◌, map, take, drop, length, refl, sym, ap, ◌∙◌, subst, arith, length-drop, drop-drop}
 use Rattle.std.specs.List.{slice_index_or}
 use Rattle.std.proofs.lemmas.List.{take_all, length-map}
 use Rattle.felt64.specs.Field.{sum}
@@ -26,18 +26,33 @@ use Rattle.cost_table.specs.Rows.{match_row}
 use Rattle.cost_table.specs.Terms.{kept, known_change}
 use Rattle.cost_table.proofs.Counts.{part_fits}
 use Rattle.cell_forms.specs.LogStands.{LogStands, OpenLogStands}
-use Rattle.cell_forms.specs.Standing.{Padding, Asked, LoggedStands, AllLoggedStand}
+use Rattle.cell_forms.specs.Standing.{Padding, listed as listed_, Asked, LoggedStands, AllLoggedStand}
 use Rattle.cell_forms.proofs.Snapshots.{snap_size, to_type}
-use Rattle.lower_kit.specs.AtBegin.{at_begin}
+use Rattle.frag_plan.specs.AtBegin.{at_begin}
+use Rattle.std.specs.FinMap.{get}
+use Rattle.std.specs.List.{Contains}
+use Rattle.std.proofs.lemmas.List.Elements.{Contains-append_left}
+use Rattle.felt64.specs.Field.{modulus}
+use Rattle.ro_machine.specs.Cells.{Cells}
+use Rattle.hint_source.specs.Remembered.{Remembered}
+use Rattle.frag_plan.specs.AtBegin.{slot_at}
+use Rattle.libfunc_registry.specs.Fam.{takes}
+use Rattle.libfunc_meaning.specs.Do.{Do}
+use Rattle.lower_kit.specs.Completing.{IsFree, free_cells, cells_from}
+use Rattle.lower_kit.proofs.Completed.{one_branch, Sound, quietly}
+use Rattle.lower_kit.proofs.Free.{free_front, grown_within}
+use Rattle.lower_kit.proofs.Tokens.{no_token, none_in_snap}
+use Rattle.lower_core.proofs.MatchFilled.{match_cells, matching}
 use Rattle.lower_kit.specs.Fitting.{Takes}
-use Rattle.lower_kit.specs.Lowers.{Counts, Shows, Lowers, change_by}
+use Rattle.lower_kit.specs.Counting.{Counts, change_by}
+use Rattle.lower_kit.specs.Lowers.{HasRoom, Completes, Shows, Lowers}
 use Rattle.lower_kit.proofs.Lists.{readings_long, kept_read}
 use Rattle.lower_kit.proofs.Members.{Variant, snapped, variant_within, variant_taken}
 use Rattle.lower_kit.proofs.Near.{formed, hints_fine}
 use Rattle.lower_kit.proofs.Shown.{quiet_counts, results_read, one_stood, one_stands}
 use Rattle.lower_kit.proofs.Ways.{is_read}
 use Rattle.lower_core.specs.Data.{match_plan}
-use Rattle.lower_core.proofs.Matches.{MatchEnds, match_ends, match_met, match_small, match_checks, match_moves, match_moved}
+use Rattle.lower_core.proofs.Matches.{match_least, MatchEnds, match_ends, match_met, match_small, match_checks, match_moves, match_moved}
 
 -- what is given on each branch is one value, of the variant as f has it
 given_at : (f : Ty → Ty) (tys : List Ty) (k : ℕ) → k < length tys → slice_index_or (map (λ variant. f variant ∷ []) tys) k [] ≡ f (slice_index_or tys k range_check) ∷ []
@@ -122,7 +137,7 @@ module _ (d : Dictionary Log OpenLog) (args : List CellExpr) (amount : ℕ) (nam
       let within : k < many = let low = variant_within padding m tys h.0 (drop 1 cells) h.1 h.5 in omega (arith, branch, low) in
       let payload = payload_here padding m ap_ fp k h.1 h.3 within (subst (λ i. Variant padding m tys i (drop 1 cells) h.1) (sym branch) h.5) in
       let change = ends.change ∙ match_change (enum_match of) (λ k. refl) (λ k. refl) k in
-      let few = match_few (enum_match of) (λ k. refl) (λ k. refl) taken.few_branches (length-map (listed tys) (λ variant. variant ∷ [])) k in
+      let few = match_few (enum_match of) (λ k. refl) (λ k. refl) taken.declared.few_branches (length-map (listed tys) (λ variant. variant ∷ [])) k in
       let read = results_read m ap_ fp (data_ (enum_match of)) args amount k end change few taken.fit.close in
       record {
         outs = h.1 ∷ [];
@@ -145,7 +160,7 @@ module _ (d : Dictionary Log OpenLog) (args : List CellExpr) (amount : ℕ) (nam
       let within : k < many = let low = variant_within padding m tys h.0 (drop 1 cells) h.1 h.5 in omega (arith, branch, low) in
       let payload = payload_here padding m ap_ fp k h.1 h.3 within (subst (λ i. Variant padding m tys i (drop 1 cells) h.1) (sym branch) h.5) in
       let change = ends.change ∙ match_change (enum_snapshot_match of) (λ k. refl) (λ k. refl) k in
-      let few = match_few (enum_snapshot_match of) (λ k. refl) (λ k. refl) taken.few_branches (length-map (listed tys) (λ variant. snap variant ∷ [])) k in
+      let few = match_few (enum_snapshot_match of) (λ k. refl) (λ k. refl) taken.declared.few_branches (length-map (listed tys) (λ variant. snap variant ∷ [])) k in
       let read = results_read m ap_ fp (data_ (enum_snapshot_match of)) args amount k end change few taken.fit.close in
       record {
         outs = h.1 ∷ [];
@@ -154,18 +169,81 @@ module _ (d : Dictionary Log OpenLog) (args : List CellExpr) (amount : ℕ) (nam
             (subst (λ c. AllLoggedStand padding m (snap (part_at of k) ∷ []) c (h.1 ∷ [])) (sym read) (one_stood padding m (snap (part_at of k)) _ h.1 (snapped padding m (part_at of k) _ h.1 payload)));
       }
 
+  -- the cells that a match fills are free where those of its branch are
+  cells_free : (fam : DataFam) → ((k : ℕ) → row_of (data_ fam) k ≡ match_row many k) → ((k : ℕ) → change_by amount (data_ fam) k ≡ moved_by (data_ fam) k) → (k : ℕ) → change_by amount (data_ fam) k ≡ known_change (match_row many k).ap
+  cells_free fam known change_known k = change_known k ∙ sym (match_change fam known change_known k)
+
+  -- an honest run through a match of this family, whose argument holds this variant
+  matched_whole : (fam : DataFam) (vs : List Logged) → ((k : ℕ) → change_by amount (data_ fam) k ≡ known_change (match_row many k).ap) → Sound d (data_ fam) args amount (fragment args (match_plan many))
+      → (r : Remembered) (m : Cells) (ap_ fp index : ℕ) → IsMemory (get m) → AllLoggedStand listed_ (get m) (takes (data_ fam)) (readings (get m) ap_ fp args) vs → HasRoom (data_ fam) vs
+      → slot_at (get m) ap_ fp args (slots.Arg 0) ≡ Some index → index < modulus → index < many → IsFree (get m) (free_cells r (get m) ap_ fp args (data_ fam) amount index)
+      → Completes d r m ap_ fp (data_ fam) args amount vs index (fragment args (match_plan many))
+  matched_whole fam vs change sound r m ap_ fp index in_field stand room here small within free =
+      let cells = match_cells ap_ fp args many index in
+      let moves : change_by amount (data_ fam) index ≡ min index (many - 2) = change index ∙ match_least many index within in
+      let front = free_front (get m) (cells_from ap_ (change_by amount (data_ fam) index)) _ free in
+      let found = matching ap_ fp args many index r m here small within (subst (λ n. IsFree (get m) (cells_from ap_ n)) moves front) in
+      let grown = grown_within m found.z.cells cells (free_cells r (get m) ap_ fp args (data_ fam) amount index)
+      (λ a h. Contains-append_left (cells_from ap_ (change_by amount (data_ fam) index)) _ a (subst (λ n. Contains (cells_from ap_ n) a) (sym moves) h)) found.grown in
+      quietly d (data_ fam) args amount (fragment args (match_plan many)) sound r m ap_ fp index vs in_field stand room found.z found.goes grown found.named
+
+  enum_match_whole : Takes (data_ (enum_match of)) args amount → Sound d (data_ (enum_match of)) args amount (fragment args (match_plan many)) → (r : Remembered) (m : Cells) (ap_ fp k : ℕ) (vs outs : List Logged)
+      → IsMemory (get m) → AllLoggedStand listed_ (get m) (of ∷ []) (readings (get m) ap_ fp args) vs → HasRoom (data_ (enum_match of)) vs → Do d (data_ (enum_match of)) vs amount k outs
+      → IsFree (get m) (free_cells r (get m) ap_ fp args (data_ (enum_match of)) amount k) → Completes d r m ap_ fp (data_ (enum_match of)) args amount vs k (fragment args (match_plan many))
+  enum_match_whole taken sound r m ap_ fp k vs outs in_field stand room does free =
+      let cells = readings (get m) ap_ fp args in
+      let one = one_stands listed_ (get m) of cells vs stand in
+      let h = one.2 in
+      let whole : length args ≡ 1 + greatest_size tys = omega (arith, readings_long (get m) ap_ fp args, h.3) in
+      let suc_ : 1 + greatest_size tys ≡ suc (greatest_size tys) = omega arith in
+      let cell = first_cell args (size of) (greatest_size tys) suc_ (omega (arith, whole)) taken.fit.marked.0 in
+      let here = is_read (get m) ap_ fp args (argument args 0) cell ∙ first_word (get m) ap_ fp h.0 args h.4 in
+      let small = (in_field (slot_address ap_ fp args (slots.Arg 0)) h.0 here).1 in
+      let within = variant_within listed_ (get m) tys h.0 (drop 1 cells) h.1 h.5 in
+      let branch = one_branch d (data_ (enum_match of)) vs amount h.0 k (h.1 ∷ []) outs tt (ap (λ us. data_does (enum_match of) us) (one.1 ∙ ap (λ v. v ∷ []) h.2)) does in
+      subst (λ j. Completes d r m ap_ fp (data_ (enum_match of)) args amount vs j (fragment args (match_plan many))) branch
+      (matched_whole (enum_match of) vs (cells_free (enum_match of) (λ k. refl) (λ k. refl)) sound r m ap_ fp h.0 in_field stand room here small within
+      (subst (λ j. IsFree (get m) (free_cells r (get m) ap_ fp args (data_ (enum_match of)) amount j)) (sym branch) free))
+
+  enum_snapshot_match_whole : Takes (data_ (enum_snapshot_match of)) args amount → Sound d (data_ (enum_snapshot_match of)) args amount (fragment args (match_plan many)) → (r : Remembered) (m : Cells) (ap_ fp k : ℕ)
+      (vs outs : List Logged) → IsMemory (get m) → AllLoggedStand listed_ (get m) (snap of ∷ []) (readings (get m) ap_ fp args) vs → HasRoom (data_ (enum_snapshot_match of)) vs
+      → Do d (data_ (enum_snapshot_match of)) vs amount k outs → IsFree (get m) (free_cells r (get m) ap_ fp args (data_ (enum_snapshot_match of)) amount k)
+      → Completes d r m ap_ fp (data_ (enum_snapshot_match of)) args amount vs k (fragment args (match_plan many))
+  enum_snapshot_match_whole taken sound r m ap_ fp k vs outs in_field stand room does free =
+      let cells = readings (get m) ap_ fp args in
+      let one = one_stands listed_ (get m) (snap of) cells vs stand in
+      let h = to_type (Asked listed_) (LogStands (get m)) (OpenLogStands (get m)) (get m) of cells one.0 one.2 in
+      let whole : length args ≡ 1 + greatest_size tys = omega (arith, readings_long (get m) ap_ fp args, h.3) in
+      let suc_ : size (snap of) ≡ suc (greatest_size tys) = snap_size of ∙ omega arith in
+      let cell = first_cell args (size (snap of)) (greatest_size tys) suc_ (omega (arith, whole, suc_)) taken.fit.marked.0 in
+      let here = is_read (get m) ap_ fp args (argument args 0) cell ∙ first_word (get m) ap_ fp h.0 args h.4 in
+      let small = (in_field (slot_address ap_ fp args (slots.Arg 0)) h.0 here).1 in
+      let within = variant_within listed_ (get m) tys h.0 (drop 1 cells) h.1 h.5 in
+      let branch = one_branch d (data_ (enum_snapshot_match of)) vs amount h.0 k (h.1 ∷ []) outs tt (ap (λ us. data_does (enum_snapshot_match of) us) (one.1 ∙ ap (λ v. v ∷ []) h.2)) does in
+      subst (λ j. Completes d r m ap_ fp (data_ (enum_snapshot_match of)) args amount vs j (fragment args (match_plan many))) branch
+      (matched_whole (enum_snapshot_match of) vs (cells_free (enum_snapshot_match of) (λ k. refl) (λ k. refl)) sound r m ap_ fp h.0 in_field stand room here small within
+      (subst (λ j. IsFree (get m) (free_cells r (get m) ap_ fp args (data_ (enum_snapshot_match of)) amount j)) (sym branch) free))
+
   pub match_lowers : Takes (data_ (enum_match of)) args amount → Lowers d (data_ (enum_match of)) args amount (fragment args (match_plan many))
   match_lowers taken = record {
     form = formed args taken.fit.close taken.inner (match_plan many) (match_met many) (match_small many);
     hints = hints_fine args taken.fit.close taken.inner (match_plan many) (match_met many);
     counts = λ m ap_ fp k end evaluation. match_counts (enum_match of) (λ k. refl) (λ k. refl) m ap_ fp k end (match_ends m ap_ fp args many k end evaluation);
-    sound = λ padding m ap_ fp k end vs in_field stand room evaluation checked. match_shows taken padding m ap_ fp k end vs in_field stand (match_ends m ap_ fp args many k end evaluation);
-  }
+    sound = match_lowers_sound;
+    token = λ m ap_ fp k pointer end evaluation small is. absurd (no_token pointer is);
+    whole = λ r m ap_ fp k vs outs in_field stand room does free knows fresh. enum_match_whole taken match_lowers_sound r m ap_ fp k vs outs in_field stand room does free;
+  } where
+    match_lowers_sound : Sound d (data_ (enum_match of)) args amount (fragment args (match_plan many))
+    match_lowers_sound padding m ap_ fp k end vs in_field stand room evaluation checked = match_shows taken padding m ap_ fp k end vs in_field stand (match_ends m ap_ fp args many k end evaluation)
 
   pub snapshot_match_lowers : Takes (data_ (enum_snapshot_match of)) args amount → Lowers d (data_ (enum_snapshot_match of)) args amount (fragment args (match_plan many))
   snapshot_match_lowers taken = record {
     form = formed args taken.fit.close taken.inner (match_plan many) (match_met many) (match_small many);
     hints = hints_fine args taken.fit.close taken.inner (match_plan many) (match_met many);
     counts = λ m ap_ fp k end evaluation. match_counts (enum_snapshot_match of) (λ k. refl) (λ k. refl) m ap_ fp k end (match_ends m ap_ fp args many k end evaluation);
-    sound = λ padding m ap_ fp k end vs in_field stand room evaluation checked. snapshot_match_shows taken padding m ap_ fp k end vs in_field stand (match_ends m ap_ fp args many k end evaluation);
-  }
+    sound = snapshot_match_lowers_sound;
+    token = λ m ap_ fp k pointer end evaluation small is. absurd (no_token pointer (sym (none_in_snap of (readings m ap_ fp args) refl) ∙ is));
+    whole = λ r m ap_ fp k vs outs in_field stand room does free knows fresh. enum_snapshot_match_whole taken snapshot_match_lowers_sound r m ap_ fp k vs outs in_field stand room does free;
+  } where
+    snapshot_match_lowers_sound : Sound d (data_ (enum_snapshot_match of)) args amount (fragment args (match_plan many))
+    snapshot_match_lowers_sound padding m ap_ fp k end vs in_field stand room evaluation checked = snapshot_match_shows taken padding m ap_ fp k end vs in_field stand (match_ends m ap_ fp args many k end evaluation)

@@ -14,7 +14,7 @@ use Rattle.frag_plan.specs.Plan.{exit, flatten, fragment, asks_met}
 use Rattle.cost_table.specs.Results.{moved}
 use Rattle.cost_table.specs.Rows.{row, free, match_row}
 use Rattle.cost_table.specs.Terms.{known_change}
-use Rattle.lower_kit.specs.AtBegin.{slot_at}
+use Rattle.frag_plan.specs.AtBegin.{slot_at}
 use Rattle.lower_kit.specs.Small.{IsSmallSlot, IsSmallPlan}
 use Rattle.lower_kit.proofs.Ways.{scene, Way, one_word, way_of, laid_same}
 use Rattle.lower_core.specs.Data.{matches, match_plan}
@@ -89,7 +89,7 @@ module _ (m : ℕ → Option ℕ) (ap_ fp : ℕ) (args : List CellExpr) where
   first_listed cell i zero t k end way = way.0
   first_listed cell i (suc more) t k end way = way.0
 
-  matches_jump : (cell : Slot) (i more d j : ℕ) → has_jump (flatten args d j (matches cell i more)) ≡ true
+  pub matches_jump : (cell : Slot) (i more d j : ℕ) → has_jump (flatten args d j (matches cell i more)) ≡ true
   matches_jump cell i zero d j = refl
   matches_jump cell i (suc more) d j = refl
 
@@ -171,3 +171,11 @@ match_moved n k cells = by_cases (nat_le n 1) where
   by_cases : (b : Bool) → moved (if b then free else row (2 + 2 * min k (n - 2)) 0 (min k (n - 2))).ap cells ≡ known_change (if b then free else row (2 + 2 * min k (n - 2)) 0 (min k (n - 2))).ap
   by_cases true = refl
   by_cases false = refl
+
+-- how far ap moves, where there is such a variant
+pub match_least : (n k : ℕ) → k < n → known_change (match_row n k).ap ≡ min k (n - 2)
+match_least zero k within = absurd (omega (arith, within))
+match_least (suc zero) k within = let none : k ≡ 0 = omega (arith, within) in omega (arith, none)
+match_least (suc (suc more)) k within =
+    let same : more ≡ suc (suc more) - 2 = omega arith in
+    ap (λ r. known_change r.ap) (match_row_more more k) ∙ ap (λ n. min k n) same

@@ -24,7 +24,7 @@ use Rattle.cost_table.proofs.Counts.{part_fits}
 use Rattle.cell_forms.specs.LogStands.{LogStands, OpenLogStands}
 use Rattle.cell_forms.specs.Standing.{Asked, AllLoggedStand}
 use Rattle.cell_forms.proofs.Snapshots.{to_type}
-use Rattle.lower_kit.specs.AtBegin.{at_begin}
+use Rattle.frag_plan.specs.AtBegin.{at_begin}
 use Rattle.lower_kit.specs.Fitting.{Takes}
 use Rattle.lower_kit.proofs.AtOnce.{Moves}
 use Rattle.lower_kit.proofs.Lists.{zeros_read, behind_read}

@@ -3,10 +3,10 @@
 ghost use Rattle.std.specs.Prelude.{◌≡◌, ◌<◌, ◌^◌, IfOk, true, false};
 ghost use Rattle.std.specs.List.{All};
 ghost use Rattle.casm_word.specs.Expressions.{IsExprInField};
-ghost use Rattle.cost_table.specs.Fits.{IsCloseExpr, IsSignature};
+ghost use Rattle.cost_table.specs.Fits.{Fit, IsCloseExpr, IsSignature};
 ghost use Rattle.libfunc_registry.specs.Fam.{fam_of};
 ghost use Rattle.type_table.specs.View.{TypesView};
-ghost use Rattle.lower_kit.specs.Fitting.{Takes};
+ghost use Rattle.lower_kit.specs.Fitting.{IsInnerNear};
 ghost use Rattle.lower_kit.specs.Logged.{logged};
 ghost use Rattle.lower_kit.specs.Lowers.{Lowers};
 ghost use Rattle.lower_core.specs.Core.{IsCore, core_fragment};
@@ -96,7 +96,7 @@ pub fn lower(
     requires in_field { All IsExprInField args.now }
     requires amount { amount < 2 ^ 40 }
     ensures fragment { IfOk result (λ f. f ≡ core_fragment args.now amount (fam_of types.now sig.now.libfunc)) }
-    ensures lowers { IfOk result (λ f. Takes (fam_of types.now sig.now.libfunc) args.now amount → Lowers logged (fam_of types.now sig.now.libfunc) args.now amount f) }
+    ensures lowers { IfOk result (λ f. Fit (fam_of types.now sig.now.libfunc) args.now → All IsInnerNear args.now → Lowers logged (fam_of types.now sig.now.libfunc) args.now amount f) }
 {
     placed(types, sig);
     if let Some(frag) = control(alloc, types, sig.libfunc, args, amount)? {

@@ -6,14 +6,17 @@ ghost use Rattle.type_table.specs.Trees.{parts};
 ghost use Rattle.type_table.specs.View.{IsTable, tree_of};
 ghost use Rattle.libfunc_registry.specs.Wanted.{IsBelow, IsPlaced};
 ghost use Rattle.cost_table.specs.Fits.{IsSignature};
+ghost use Rattle.libfunc_registry.specs.Fam.{fam_of};
+ghost use Rattle.lower_kit.specs.Fitting.{IsAsDeclared};
 
 use libfunc_registry::Sig;
 use type_table::{TypeId, Types};
 
-/// That the positions of a signature's libfunc are of types of the table. It does nothing.
+/// That the positions of a signature's libfunc are of types of the table, and its family as declared ones are. It does nothing.
 pub(crate) fn placed(types: &Types, sig: &Sig)
     requires { IsSignature types.now sig.now }
-    ensures { IsPlaced types.now sig.now.libfunc }
+    ensures placed { IsPlaced types.now sig.now.libfunc }
+    ensures declared { IsAsDeclared (fam_of types.now sig.now.libfunc) }
 {
     let _count = types.len();
 }

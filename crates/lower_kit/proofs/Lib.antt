@@ -1,8 +1,14 @@
 pub mod AtOnce
+pub mod Completed
+pub mod Declared
+pub mod Free
 pub mod Lists
 pub mod Members
 pub mod Named
 pub mod Near
 pub mod Pieces
+pub mod RowsFilled
 pub mod Shown
+pub mod Tokens
 pub mod Ways
+pub mod Worded

@@ -11,7 +11,7 @@ use Rattle.cell_terms.specs.declared.term.Term.{Term}
 use Rattle.cell_terms.specs.declared.term.Term.TheVariants as terms
 use Rattle.cell_terms.specs.Resolving.{argument}
 use Rattle.cost_table.specs.Terms.{further, run, kept, laid, framed, zeros}
-use Rattle.lower_kit.specs.AtBegin.{slot_at, at_begin}
+use Rattle.frag_plan.specs.AtBegin.{slot_at, at_begin}
 
 module _ (m : ℕ → Option ℕ) (ap_ fp : ℕ) where
   pub readings_long : (args : List CellExpr) → length (readings m ap_ fp args) ≡ length args

@@ -23,7 +23,7 @@ use Rattle.cell_terms.specs.declared.term.Term.{Term}
 use Rattle.cell_terms.specs.declared.term.Term.TheVariants as terms
 use Rattle.cell_terms.specs.Resolving.{at_of, argument, place, side_of, resolve}
 use Rattle.cost_table.specs.Fits.{IsClose, IsCloseSide, IsCloseExpr}
-use Rattle.lower_kit.specs.AtBegin.{slot_at, second_at, at_begin}
+use Rattle.frag_plan.specs.AtBegin.{slot_at, second_at, at_begin}
 
 base_above : (d : ℕ) (base : Reg) (off : ℤ) → d < 2 ^ 62 → IsClose (record { base = base; off = off }) → IsAtAbove (lowered_at d (record { base = base; off = off }))
 base_above d reg.Ap off few close = let a = close.least in omega (arith, ints)

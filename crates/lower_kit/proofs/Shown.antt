@@ -20,8 +20,8 @@ use Rattle.cell_forms.specs.Standing.{Padding, Asked, LoggedStands, AllLoggedSta
 use Rattle.cell_forms.proofs.Logs.{log_long, open_log_long}
 use Rattle.cell_forms.proofs.Sides.{all_of_both}
 use Rattle.cell_forms.proofs.Sizes.{stands_long}
-use Rattle.lower_kit.specs.AtBegin.{at_begin}
-use Rattle.lower_kit.specs.Lowers.{Counts, change_by}
+use Rattle.frag_plan.specs.AtBegin.{at_begin}
+use Rattle.lower_kit.specs.Counting.{Counts, change_by}
 use Rattle.lower_kit.proofs.Lists.{readings_long, kept_read}
 use Rattle.lower_kit.proofs.Named.{terms_read}
 

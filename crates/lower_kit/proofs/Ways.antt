@@ -21,7 +21,7 @@ use Rattle.frag_plan.specs.Scene.{Scene, Along, second, value, word_or_zero, sce
 use Rattle.frag_plan.proofs.Bridges.{facts_of}
 use Rattle.cost_table.specs.Marks.{is_cell}
 use Rattle.cell_forms.proofs.Once.{both_true}
-use Rattle.lower_kit.specs.AtBegin.{slot_at, second_at, at_begin}
+use Rattle.frag_plan.specs.AtBegin.{slot_at, second_at, at_begin}
 use Rattle.lower_kit.specs.Rows.{lay_each, same_each}
 use Rattle.lower_kit.proofs.Lists.{from_argument}
 

@@ -1,7 +1,9 @@
-pub mod AtBegin
+pub mod Completing
+pub mod Counting
 pub mod Fitting
 pub mod Logged
 pub mod Lowers
 pub mod Pieces
 pub mod Rows
 pub mod Small
+pub mod Worded
