@@ -51,7 +51,7 @@ added_extends m more a w none is = subst (λ cells. Extends (get m) (get cells))
 
 adds_extends : (m more : Cells) (place : At → ℕ) (c : ℕ) (e : CellExpr) → Adds m place c e more → Extends (get m) (get more)
 adds_extends m more place c e (inl is) = same_extends m more is
-adds_extends m more place c e (inr (a, w, none, open_, is)) = added_extends m more a w none is
+adds_extends m more place c e (inr (a, w, small, none, open_, is)) = added_extends m more a w none is
 
 fills_extends : (a fp : ℕ) (p : Piece) (t : Tally) (r s : Remembered) (m more : Cells) → Fills a fp p t r m s more → Extends (get m) (get more)
 fills_extends a fp (piece.Let e) t r s m more fills = adds_extends m more (address_after a fp t.change) (sum a t.change) e fills.1

@@ -38,13 +38,13 @@ same_type equal x = subst (λ T. T) equal x
 
 -- the cell that got a word has it
 pub got : (m more : Cells) (a w : ℕ) → Gets m a w more → get more a ≡ Some w
-got m more a w (none, is) =
+got m more a w gets =
     let here = get-insert nat_cmp_total m a w a in
-    ap (λ cells. get cells a) is ∙ grind (arith, nat_tests, here)
+    ap (λ cells. get cells a) gets.added ∙ grind (arith, nat_tests, here)
 
 -- and each other word is kept
 pub gets_extends : (m more : Cells) (a w : ℕ) → Gets m a w more → Extends (get m) (get more)
-gets_extends m more a w (none, is) = subst (λ cells. Extends (get m) (get cells)) (sym is) (insert_extends m a w (inl none))
+gets_extends m more a w gets = subst (λ cells. Extends (get m) (get cells)) (sym gets.added) (insert_extends m a w (inl gets.open_))
 
 module _ (a fp : ℕ) (args : List CellExpr) (d : ℕ) where
   -- the equation of a term, as one of its expression
@@ -70,12 +70,12 @@ module _ (a fp : ℕ) (args : List CellExpr) (d : ℕ) where
   equates : (m more : Cells) (c : ℕ) (t : Term) → Equates a fp args c t m more → Equation c t m more
   equates m more c t (left w reads gets) =
       let word = term_word (get m) a fp args d t ∙ reads in (
-        inr (c, w, gets.0, inl (refl, is_some _ w word), gets.1),
+        inr (c, w, gets.small, gets.open_, inl (refl, is_some _ w word), gets.added),
         (w, got m more c w gets, reading_extends (get m) (get more) (gets_extends m more c w gets) (address_after a fp d) (resolve d args t) w word),
       )
   equates m more c t (right b w here open_ gets) =
       let opens = opened m more c b w t here open_ gets in
-      (inr (b, w, gets.0, inr (is_some _ w here, opens.0), gets.1), (w, gets_extends m more b w gets c w here, opens.1))
+      (inr (b, w, gets.small, gets.open_, inr (is_some _ w here, opens.0), gets.added), (w, gets_extends m more b w gets c w here, opens.1))
   equates m more c t (known w here reads is) =
       (inl is, (w, ap (λ cells. get cells c) is ∙ here, ap (λ cells. word_after (get cells) a fp d (resolve d args t)) is ∙ term_word (get m) a fp args d t ∙ reads))
 
@@ -98,6 +98,7 @@ module _ (a fp : ℕ) (args : List CellExpr) (jumps : Bool) where
       word = answers.word;
       asks = query_word (get m) a fp args u.change q ∙ answers.asks;
       answer = answers.answer;
+      small = answers.small;
       open_ = slot_word (get m) a fp args u.change n ∙ answers.open_;
       added = answers.added ∙ ap (λ c. insert m c answers.word) (sym (slot_is (get m) a fp args u.change n));
       remembers = answers.remembers;

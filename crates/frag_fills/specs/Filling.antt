@@ -43,15 +43,15 @@ module _ (m : ℕ → Option ℕ) (place : At → ℕ) where
   IsOpenIn (expr.Diff at s) a = IsBeside (λ w. Unit {0}) at s a
   IsOpenIn (expr.Product at s) a = IsBeside IsDivisor at s a
 
-  -- The equation says that cell c has the word of an expression. It leaves one word for the cell at this address: all others that
-  -- it names have theirs.
-  abbrev pub IsLeftOpen : (c : ℕ) → CellExpr → ℕ → Type 0
-  IsLeftOpen c e a = ((a ≡ c) × IsSome (reading_by m place e)) ⊎ (IsSome (m c) × IsOpenIn e a)
+  -- The equation says that cell c has the word of an expression. Of the cells that it names, the one at this address may still lack
+  -- its word, and the others leave one for it.
+  abbrev pub IsOpen : (c : ℕ) → CellExpr → ℕ → Type 0
+  IsOpen c e a = ((a ≡ c) × IsSome (reading_by m place e)) ⊎ (IsSome (m c) × IsOpenIn e a)
 
--- The cells after an equation: those before, and at most one more, for which the equation leaves one word. That it has this word
--- is what the piece says of the cells after it.
+-- The cells after an equation: those before, and at most one more, which gets the word of the field that the equation leaves for
+-- it. Which word that is, is what the piece says of the cells after it.
 abbrev pub Adds : Cells → (place : At → ℕ) → (c : ℕ) → CellExpr → Cells → Type 0
-Adds m place c e more = (more ≡ m) ⊎ ((a w : ℕ) × (get m a ≡ None) × IsLeftOpen (get m) place c e a × (more ≡ insert m a w))
+Adds m place c e more = (more ≡ m) ⊎ ((a w : ℕ) × (w < modulus) × (get m a ≡ None) × IsOpen (get m) place c e a × (more ≡ insert m a w))
 
 abbrev pub with_two : (ℕ → ℕ → Kind ℕ) → Option ℕ → Option ℕ → Option (Kind ℕ)
 with_two f a b = option_and_then (λ x. option_map (f x) b) a
@@ -78,12 +78,13 @@ abbrev pub once_answered : Kind ℕ → Remembered → Remembered
 once_answered q r = if is_fresh q then record r { fresh = r.fresh + 1 } else r
 
 -- A query of the honest source, for the cell at an address that has no word yet: the words that it asks for are there, the source
--- has an answer, and the cell gets it.
+-- has an answer, a number of the field, and the cell gets it.
 pub record Answers (query : Option (Kind ℕ)) (a : ℕ) (r : Remembered) (m : Cells) (s : Remembered) (more : Cells) : Type 0 where
   pub asked : Kind ℕ
   pub word : ℕ
   pub asks : query ≡ Some asked
   pub answer : honest_answer r.logs r.fresh asked ≡ Some word
+  pub small : word < modulus
   pub open_ : get m a ≡ None
   pub added : more ≡ insert m a word
   pub remembers : s ≡ once_answered asked r

@@ -1,7 +1,8 @@
--- How the lines of a plan fill cells: what a plan's fragment does, as words of named cells.
-use Rattle.std.specs.Prelude.{◌≡◌, ◌≢◌, ◌⊎◌, ℕ, Bool, List, Some, None, if◌then◌else◌}
+-- How the lines of a plan fill cells: what a plan's fragment does, as words of named cells. An open operand of a sum, a difference
+-- or a product is left out, as no plan has one yet.
+use Rattle.std.specs.Prelude.{◌≡◌, ◌≢◌, ◌⊎◌, ◌<◌, ℕ, Bool, List, Some, None, if◌then◌else◌}
 use Rattle.std.specs.FinMap.{get, insert}
-use Rattle.felt64.specs.Field.{sum}
+use Rattle.felt64.specs.Field.{modulus, sum}
 use Rattle.casm_word.specs.declared.cell_expr.CellExpr.{CellExpr}
 use Rattle.cell_terms.specs.declared.term.Term.{Term}
 use Rattle.cell_terms.specs.declared.term.Term.TheVariants as terms
@@ -13,9 +14,11 @@ use Rattle.frag_plan.specs.Plan.{Line, lay, reserve, ask, same, range, Plan, lin
 use Rattle.frag_plan.specs.Scene.{slot_address}
 use Rattle.frag_fills.specs.Filling.{Answers, Filled, query_of}
 
--- a cell without a word gets this one
-abbrev pub Gets : Cells → ℕ → ℕ → Cells → Type 0
-Gets m a w more = (get m a ≡ None) × (more ≡ insert m a w)
+-- a cell without a word gets this one, of the field
+pub record Gets (m : Cells) (a w : ℕ) (more : Cells) : Type 0 where
+  pub small : w < modulus
+  pub open_ : get m a ≡ None
+  pub added : more ≡ insert m a w
 
 module _ (ap fp : ℕ) (args : List CellExpr) where
   -- the term's one cell without a word is at this address, and gets the term's word

@@ -52,6 +52,7 @@ use Rattle.cost_table.specs.Results.{branch_types, results}
 use Rattle.cell_forms.specs.Standing.{listed}
 use Rattle.lower_kit.specs.Completing.{IsFree, free_cells}
 use Rattle.lower_kit.specs.Counting.{TokensAre}
+use Rattle.lower_kit.specs.Logged.{honest}
 use Rattle.lower_kit.specs.Lowers.{HasRoom, Completes}
 use Rattle.lower_kit.proofs.Completed.{one_branch, Sound, quietly}
 use Rattle.lower_kit.proofs.Free.{first_free, free_next, grown_by_one, grown_on, grown_within, contains_first, contains_behind}
@@ -149,8 +150,8 @@ module _ (d : Dictionary Log OpenLog) (args : List CellExpr) (amount : ℕ) (ty 
       ((word.0, here, (in_field _ word.0 here).1), listed_from m ap_ fp (i + 1) n in_field (omega (arith, room)) (λ j low. cells j (omega (arith, low))) all)
 
   box_whole : Takes box_fam args amount → Sound d box_fam args amount (fragment args (box_plan (size ty))) → (r : Remembered) (m : Cells) (ap_ fp k : ℕ) (vs outs : List Logged) → IsMemory (get m)
-      → AllLoggedStand listed (get m) (ty ∷ []) (readings (get m) ap_ fp args) vs → HasRoom box_fam vs → Do d box_fam vs amount k outs
-      → IsFree (get m) (free_cells r (get m) ap_ fp args box_fam amount k) → IsSome (fresh_answer r.fresh) → Completes d r m ap_ fp box_fam args amount vs k (fragment args (box_plan (size ty)))
+      → AllLoggedStand listed (get m) (ty ∷ []) (readings (get m) ap_ fp args) vs → HasRoom box_fam vs → Do honest box_fam vs amount k outs
+      → IsFree (get m) (free_cells r (get m) ap_ fp args box_fam amount k) → IsSome (fresh_answer r.fresh) → Completes d r m ap_ fp box_fam args amount k outs (fragment args (box_plan (size ty)))
   box_whole taken sound r m ap_ fp k vs outs in_field stand room does free fresh =
       let z_ = size ty in
       let b = unwrap_or (fresh_answer r.fresh) 0 in
@@ -161,7 +162,8 @@ module _ (d : Dictionary Log OpenLog) (args : List CellExpr) (amount : ℕ) (ty 
       let marked = all_cells z_ args taken.fit.marked.0 in
       let a = sum ap_ 0 in
       let behind_ = map (sum b) (range_with_len 0 z_) in
-      let gets = given m a b (first_free (get m) a behind_ free) in
+      let small = fresh_small r.fresh b answer in
+      let gets = given m a b small (first_free (get m) a behind_ free) in
       let m' = insert m a b in
       let s = record r { fresh = r.fresh + 1 } in
       let onward = gets_extends m m' a b gets in
@@ -170,15 +172,16 @@ module _ (d : Dictionary Log OpenLog) (args : List CellExpr) (amount : ℕ) (ty 
       let row = behind_filled ap_ fp args false (slots.Own 0) b 0 0 z_ (exit 0) (step_by 1 nothing) s m m' onward listed_ points (free_next m m' a b behind_ free gets) in
       let z : Filled = record { end = row.then_; remembered = s; cells = row.more } in
       let none = sames_no_jump args 0 contents (exit 0) (λ d i. refl) (0 + 1) (0 + 1 + 1) in
-      let asks : Answers (Some kind.Fresh) a r m s m' = record { asked = kind.Fresh; word = b; asks = refl; answer = answer; open_ = gets.0; added = refl; remembers = refl } in
+      let asks : Answers (Some kind.Fresh) a r m s m' = record { asked = kind.Fresh; word = b; asks = refl; answer = answer; small = small; open_ = gets.open_; added = refl; remembers = refl } in
       let filling = plan_filling args (box_plan z_) ap_ fp 0 r m z
       (subst (λ jumps. PlanFills ap_ fp args jumps (box_plan z_) nothing r m 0 z) (sym none)
       (nothing, s, m', (asks, refl), (step_by 1 nothing, s, m', (refl, refl, refl), row.on 0 z (refl, refl)))) in
-      let branch = one_branch d box_fam vs amount 0 k (val.boxed one.0 ∷ []) outs tt (ap (λ us. data_does (into_box ty) us) one.1) does in
-      let grown = grown_on m m' row.more (free_cells r (get m) ap_ fp args box_fam amount 0) (grown_by_one m m' a b _ gets (sum_below ap_ 0) (fresh_small r.fresh b answer) (contains_first a behind_))
+      let branch = one_branch d honest box_fam vs amount 0 k (val.boxed one.0 ∷ []) outs tt (ap (λ us. data_does (into_box ty) us) one.1) does in
+      let grown = grown_on m m' row.more (free_cells r (get m) ap_ fp args box_fam amount 0) (grown_by_one m m' a b _ gets (sum_below ap_ 0) (contains_first a behind_))
       (grown_within m' row.more behind_ _ (λ x h. contains_behind a x behind_ h) row.grown) in
-      subst (λ j. Completes d r m ap_ fp box_fam args amount vs j (fragment args (box_plan z_))) branch
-      (quietly d box_fam args amount (fragment args (box_plan z_)) sound r m ap_ fp 0 vs in_field stand room z filling grown row.named)
+      subst (λ j. Completes d r m ap_ fp box_fam args amount j outs (fragment args (box_plan z_))) branch
+      (quietly d box_fam args amount (fragment args (box_plan z_)) sound tt (λ s cells. tt) r m ap_ fp 0 vs outs in_field stand room (subst (λ j. Do honest box_fam vs amount j outs) (sym branch) does) z filling grown row.named refl
+      (let steps : 0 + 1 ≤ row.then_.steps = row.steps in omega (arith, steps)))
 
   pub box_lowers : Takes box_fam args amount → Lowers d box_fam args amount (fragment args (box_plan (size ty)))
   box_lowers taken =

@@ -281,7 +281,7 @@ module _ (d : Dictionary Log OpenLog) (args : List CellExpr) (amount : ℕ) wher
 
   still : (fam : ControlFam) → change_by amount (control fam) 0 ≡ 0 → moved_by (control fam) 0 ≡ 0 → (row_of (control fam) 0).checks ≡ 0
       → IsStill d (control fam) args amount
-  still fam change moved checks = record { unlogged = tt; change = change; moved = moved; checks = checks }
+  still fam change moved checks = record { unlogged = tt; begins = λ r cells. tt; change = change; moved = moved; checks = checks }
 
   pub control_lowers : (fam : ControlFam) → Takes (control fam) args amount → Lowers d (control fam) args amount (fragment args (control_plan amount fam))
   unfolding temp local locals

@@ -47,7 +47,7 @@ module _ (d : Dictionary Log OpenLog) (args : List CellExpr) (amount : ℕ) wher
   pub data_lowers : (fam : DataFam) → Meets fam
   data_lowers (enum_init ty index) taken =
       let proper = taken.declared.proper in
-      at_once d (data_ (enum_init ty index)) args amount taken (record { unlogged = tt; change = refl; moved = refl; checks = refl })
+      at_once d (data_ (enum_init ty index)) args amount taken (record { unlogged = tt; begins = λ r cells. tt; change = refl; moved = refl; checks = refl })
       (subst (λ t. Moves d (data_ (enum_init t index)) args amount) (sym proper.2) (init_moves d args amount proper.0 proper.1 index proper.3))
       (subst (λ t. Hands d (data_ (enum_init t index)) args amount) (sym proper.2) (λ m ap_ fp w small is. (tt, tt)))
   data_lowers (enum_match ty) taken =
@@ -59,22 +59,22 @@ module _ (d : Dictionary Log OpenLog) (args : List CellExpr) (amount : ℕ) wher
   data_lowers (struct_construct ty) taken =
       let proper = taken.declared.proper in
       let many = taken.fit.many ∙ ap (λ t. cells_of (parts t)) proper.2 ∙ sym (together_size proper.1) in
-      at_once d (data_ (struct_construct ty)) args amount taken (record { unlogged = tt; change = refl; moved = refl; checks = refl })
+      at_once d (data_ (struct_construct ty)) args amount taken (record { unlogged = tt; begins = λ r cells. tt; change = refl; moved = refl; checks = refl })
       (subst (λ t. Moves d (data_ (struct_construct t)) args amount) (sym proper.2) (construct_moves d args amount proper.0 proper.1 many))
       (subst (λ t. Hands d (data_ (struct_construct t)) args amount) (sym proper.2) (λ m ap_ fp w small is. (tt, tt)))
   data_lowers (struct_deconstruct ty) taken =
       let proper = taken.declared.proper in
-      at_once d (data_ (struct_deconstruct ty)) args amount taken (record { unlogged = tt; change = refl; moved = refl; checks = refl })
+      at_once d (data_ (struct_deconstruct ty)) args amount taken (record { unlogged = tt; begins = λ r cells. tt; change = refl; moved = refl; checks = refl })
       (subst (λ t. Moves d (data_ (struct_deconstruct t)) args amount) (sym proper.2) (deconstruct_moves d args amount proper.0 proper.1))
       (subst (λ t. Hands d (data_ (struct_deconstruct t)) args amount) (sym proper.2) (λ m ap_ fp w small is. absurd (no_token w is)))
   data_lowers (struct_snapshot_deconstruct ty) taken =
       let proper = taken.declared.proper in
-      at_once d (data_ (struct_snapshot_deconstruct ty)) args amount taken (record { unlogged = tt; change = refl; moved = refl; checks = refl })
+      at_once d (data_ (struct_snapshot_deconstruct ty)) args amount taken (record { unlogged = tt; begins = λ r cells. tt; change = refl; moved = refl; checks = refl })
       (subst (λ t. Moves d (data_ (struct_snapshot_deconstruct t)) args amount) (sym proper.2) (snapshot_deconstruct_moves d args amount proper.0 proper.1))
       (subst (λ t. Hands d (data_ (struct_snapshot_deconstruct t)) args amount) (sym proper.2)
       (λ m ap_ fp w small is. absurd (no_token w (sym (none_in_snap (struct proper.0 proper.1) (readings m ap_ fp args) refl) ∙ is))))
   data_lowers (snapshot_take ty) taken =
-      at_once d (data_ (snapshot_take ty)) args amount taken (record { unlogged = tt; change = refl; moved = refl; checks = refl }) (snapshot_moves d args amount ty) (snapshot_hands ty taken)
+      at_once d (data_ (snapshot_take ty)) args amount taken (record { unlogged = tt; begins = λ r cells. tt; change = refl; moved = refl; checks = refl }) (snapshot_moves d args amount ty) (snapshot_hands ty taken)
   data_lowers (into_box ty) taken = box_lowers d args amount ty taken
   data_lowers (unbox ty) taken =
-      at_once d (data_ (unbox ty)) args amount taken (record { unlogged = tt; change = refl; moved = refl; checks = refl }) (unbox_moves d args amount ty taken) (λ m ap_ fp w small is. absurd (no_token w is))
+      at_once d (data_ (unbox ty)) args amount taken (record { unlogged = tt; begins = λ r cells. tt; change = refl; moved = refl; checks = refl }) (unbox_moves d args amount ty taken) (λ m ap_ fp w small is. absurd (no_token w is))

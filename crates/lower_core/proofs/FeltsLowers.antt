@@ -31,6 +31,7 @@ use Rattle.hint_source.specs.Remembered.{Remembered}
 use Rattle.frag_fills.specs.Filling.{Filled}
 use Rattle.frag_fills.proofs.Lines.{plan_filling}
 use Rattle.libfunc_meaning.specs.Do.{Do}
+use Rattle.lower_kit.specs.Logged.{honest}
 use Rattle.lower_kit.proofs.Completed.{one_branch, Sound, quietly}
 use Rattle.lower_kit.proofs.Free.{not_grown}
 use Rattle.lower_kit.proofs.Tokens.{no_token}
@@ -187,8 +188,8 @@ module _ (d : Dictionary Log OpenLog) (amount : ℕ) where
         ]
 
     zero_whole : Takes zero_fam args amount → Sound d zero_fam args amount (fragment args zero_plan) → (r : Remembered) (m : Cells) (ap_ fp k : ℕ) (vs outs : List Logged) → IsMemory (get m)
-        → AllLoggedStand listed (get m) (number num ∷ []) (readings (get m) ap_ fp args) vs → HasRoom zero_fam vs → Do d zero_fam vs amount k outs
-        → Completes d r m ap_ fp zero_fam args amount vs k (fragment args zero_plan)
+        → AllLoggedStand listed (get m) (number num ∷ []) (readings (get m) ap_ fp args) vs → HasRoom zero_fam vs → Do honest zero_fam vs amount k outs
+        → Completes d r m ap_ fp zero_fam args amount k outs (fragment args zero_plan)
     unfolding zero_plan
     zero_whole taken sound r m ap_ fp k vs outs in_field stand room does =
         let one = one_stands listed (get m) (number num) (readings (get m) ap_ fp args) vs stand in
@@ -201,15 +202,15 @@ module _ (d : Dictionary Log OpenLog) (amount : ℕ) where
         let z : Filled = record { end = step_on (step_on nothing); remembered = r; cells = m } in
         elim (cases_eq n 0) [
           | inl none ↦
-              let branch = one_branch d zero_fam vs amount 0 k [] outs tt (ap (λ us. felts_does (is_zero num) us) value ∙ ap (λ i. felts_does {D = Log} {E = OpenLog} (is_zero num) (val.number num i ∷ [])) none) does in
+              let branch = one_branch d honest zero_fam vs amount 0 k [] outs tt (ap (λ us. felts_does (is_zero num) us) value ∙ ap (λ i. felts_does {D = Log} {E = OpenLog} (is_zero num) (val.number num i ∷ [])) none) does in
               let filling = plan_filling args zero_plan ap_ fp 0 r m z (n, here, inl (none, (refl, refl))) in
-              subst (λ j. Completes d r m ap_ fp zero_fam args amount vs j (fragment args zero_plan)) branch
-              (quietly d zero_fam args amount (fragment args zero_plan) sound r m ap_ fp 0 vs in_field stand room z filling (not_grown m _) refl)
+              subst (λ j. Completes d r m ap_ fp zero_fam args amount j outs (fragment args zero_plan)) branch
+              (quietly d zero_fam args amount (fragment args zero_plan) sound tt (λ s cells. tt) r m ap_ fp 0 vs outs in_field stand room (subst (λ j. Do honest zero_fam vs amount j outs) (sym branch) does) z filling (not_grown m _) refl refl (omega arith))
           | inr some ↦
-              let branch = one_branch d zero_fam vs amount 1 k (val.number num n ∷ []) outs tt (ap (λ us. felts_does (is_zero num) us) value ∙ ap (λ b. if b then Some (0, []) else Some (1, val.number num n ∷ [])) (ne_eqb n 0 some)) does in
+              let branch = one_branch d honest zero_fam vs amount 1 k (val.number num n ∷ []) outs tt (ap (λ us. felts_does (is_zero num) us) value ∙ ap (λ b. if b then Some (0, []) else Some (1, val.number num n ∷ [])) (ne_eqb n 0 some)) does in
               let filling = plan_filling args zero_plan ap_ fp 1 r m z (n, here, inr (some, (refl, refl))) in
-              subst (λ j. Completes d r m ap_ fp zero_fam args amount vs j (fragment args zero_plan)) branch
-              (quietly d zero_fam args amount (fragment args zero_plan) sound r m ap_ fp 1 vs in_field stand room z filling (not_grown m _) refl)
+              subst (λ j. Completes d r m ap_ fp zero_fam args amount j outs (fragment args zero_plan)) branch
+              (quietly d zero_fam args amount (fragment args zero_plan) sound tt (λ s cells. tt) r m ap_ fp 1 vs outs in_field stand room (subst (λ j. Do honest zero_fam vs amount j outs) (sym branch) does) z filling (not_grown m _) refl refl (omega arith))
         ]
 
     zero_lowers : Takes zero_fam args amount → Lowers d zero_fam args amount (fragment args zero_plan)
@@ -228,10 +229,10 @@ module _ (d : Dictionary Log OpenLog) (amount : ℕ) where
   pub felts_lowers : (args : List CellExpr) (fam : FeltsFam) → Takes (felts fam) args amount → Lowers d (felts fam) args amount (fragment args (felts_plan fam))
   unfolding zero_plan
   felts_lowers args (const k n) taken =
-      at_once d (felts (const k n)) args amount taken (record { unlogged = tt; change = refl; moved = refl; checks = refl }) (const_moves args k n taken.declared.proper) (λ m ap_ fp w small is. (tt, tt))
-  felts_lowers args felt64_add taken = at_once d (felts felt64_add) args amount taken (record { unlogged = tt; change = refl; moved = refl; checks = refl }) (add_moves args taken) (λ m ap_ fp w small is. (tt, tt))
-  felts_lowers args felt64_sub taken = at_once d (felts felt64_sub) args amount taken (record { unlogged = tt; change = refl; moved = refl; checks = refl }) (sub_moves args taken) (λ m ap_ fp w small is. (tt, tt))
-  felts_lowers args felt64_mul taken = at_once d (felts felt64_mul) args amount taken (record { unlogged = tt; change = refl; moved = refl; checks = refl }) (mul_moves args taken) (λ m ap_ fp w small is. (tt, tt))
+      at_once d (felts (const k n)) args amount taken (record { unlogged = tt; begins = λ r cells. tt; change = refl; moved = refl; checks = refl }) (const_moves args k n taken.declared.proper) (λ m ap_ fp w small is. (tt, tt))
+  felts_lowers args felt64_add taken = at_once d (felts felt64_add) args amount taken (record { unlogged = tt; begins = λ r cells. tt; change = refl; moved = refl; checks = refl }) (add_moves args taken) (λ m ap_ fp w small is. (tt, tt))
+  felts_lowers args felt64_sub taken = at_once d (felts felt64_sub) args amount taken (record { unlogged = tt; begins = λ r cells. tt; change = refl; moved = refl; checks = refl }) (sub_moves args taken) (λ m ap_ fp w small is. (tt, tt))
+  felts_lowers args felt64_mul taken = at_once d (felts felt64_mul) args amount taken (record { unlogged = tt; begins = λ r cells. tt; change = refl; moved = refl; checks = refl }) (mul_moves args taken) (λ m ap_ fp w small is. (tt, tt))
   felts_lowers args (is_zero k) taken = zero_lowers args k taken
   felts_lowers args (unwrap_non_zero k) taken =
-      at_once d (felts (unwrap_non_zero k)) args amount taken (record { unlogged = tt; change = refl; moved = refl; checks = refl }) (unwrap_moves args k) (λ m ap_ fp w small is. (tt, tt))
+      at_once d (felts (unwrap_non_zero k)) args amount taken (record { unlogged = tt; begins = λ r cells. tt; change = refl; moved = refl; checks = refl }) (unwrap_moves args k) (λ m ap_ fp w small is. (tt, tt))

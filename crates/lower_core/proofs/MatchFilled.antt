@@ -33,6 +33,7 @@ module _ (ap_ fp : ℕ) (args : List CellExpr) where
   pub record MatchFilled (u : Tally) (r : Remembered) (m : Cells) (cells : List ℕ) (go : Filled → Type 0) : Type 0 where
     pub z : Filled
     pub named : z.end.named ≡ u.named
+    pub remembers : z.remembered ≡ r
     pub grown : Grown m cells z.cells
     pub goes : go z
 
@@ -40,7 +41,7 @@ module _ (ap_ fp : ℕ) (args : List CellExpr) where
   Goes cell i more u r m k z = PlanFills ap_ fp args true (matches cell i more) u r m k z
 
   at_end : (u : Tally) (r : Remembered) (m : Cells) (cells : List ℕ) (go : Filled → Type 0) → go (record { end = step_on (step_on u); remembered = r; cells = m }) → MatchFilled u r m cells go
-  at_end u r m cells go goes = record { z = record { end = step_on (step_on u); remembered = r; cells = m }; named = refl; grown = not_grown m cells; goes = goes }
+  at_end u r m cells go goes = record { z = record { end = step_on (step_on u); remembered = r; cells = m }; named = refl; remembers = refl; grown = not_grown m cells; goes = goes }
 
   match_filled : (cell : Slot) (i more w k : ℕ) (u : Tally) (r : Remembered) (m : Cells) → u.change ≡ i → slot_at (get m) ap_ fp args cell ≡ Some w → w < modulus → w ≤ more + 1 → k ≡ i + w
       → IsFree (get m) (new_cells i (min w more)) → MatchFilled u r m (new_cells i (min w more)) (Goes cell i more u r m k)
@@ -56,7 +57,7 @@ module _ (ap_ fp : ℕ) (args : List CellExpr) where
       let a = sum ap_ i in
       let rest_cells = new_cells (i + 1) (min w more) in
       let free' : IsFree (get m) (a ∷ rest_cells) = subst (λ n. IsFree (get m) (new_cells i n)) least free in
-      let gets = given m a w (first_free (get m) a rest_cells free') in
+      let gets = given m a w (omega (arith, small)) (first_free (get m) a rest_cells free') in
       let next : slot_at (get (insert m a w)) ap_ fp args (slots.Own i) ≡ Some w = got m (insert m a w) a w gets in
       let rest = match_filled (slots.Own i) (i + 1) more w k (step_by 1 (step_on u)) r (insert m a w) (omega (arith, at)) next (omega (arith, small)) (omega (arith, few)) (omega (arith, branch))
       (free_next m (insert m a w) a w rest_cells free' gets) in
@@ -64,8 +65,9 @@ module _ (ap_ fp : ℕ) (args : List CellExpr) where
       record {
         z = rest.z;
         named = rest.named;
+        remembers = rest.remembers;
         grown = subst (λ n. Grown m (new_cells i n) rest.z.cells) (sym least)
-            (grown_on m (insert m a w) rest.z.cells (a ∷ rest_cells) (grown_by_one m (insert m a w) a w (a ∷ rest_cells) gets (sum_below ap_ i) (omega (arith, small)) (contains_first a rest_cells))
+            (grown_on m (insert m a w) rest.z.cells (a ∷ rest_cells) (grown_by_one m (insert m a w) a w (a ∷ rest_cells) gets (sum_below ap_ i) (contains_first a rest_cells))
             (grown_within (insert m a w) rest.z.cells rest_cells (a ∷ rest_cells) (λ b h. contains_behind a b rest_cells h) rest.grown));
         goes = (suc w, is, inr (some, (step_by 1 (step_on u), r, insert m a w, (subst (λ c. Equates ap_ fp args c (terms.Sub cell (seconds.Number 1)) m (insert m a w)) (ap (sum ap_) (sym at)) (left w reads gets), refl, refl), rest.goes)));
       }
@@ -81,7 +83,7 @@ module _ (ap_ fp : ℕ) (args : List CellExpr) where
   matching (suc zero) w r m is small within free =
       let none : w ≡ 0 = omega (arith, within) in
       let z : Filled = record { end = nothing; remembered = r; cells = m } in
-      record { z = z; named = refl; grown = not_grown m _; goes = plan_filling args (exit 0) ap_ fp w r m z (none, refl) }
+      record { z = z; named = refl; remembers = refl; grown = not_grown m _; goes = plan_filling args (exit 0) ap_ fp w r m z (none, refl) }
   matching (suc (suc more)) w r m is small within free =
       let plan = matches (slots.Arg 0) 0 more in
       let same : suc (suc more) - 2 ≡ more = omega arith in
@@ -90,6 +92,7 @@ module _ (ap_ fp : ℕ) (args : List CellExpr) where
       record {
         z = found.z;
         named = found.named;
+        remembers = found.remembers;
         grown = subst (λ n. Grown m (new_cells 0 (min w n)) found.z.cells) (sym same) found.grown;
         goes = plan_filling args plan ap_ fp w r m found.z (subst (λ b. PlanFills ap_ fp args b plan nothing r m w found.z) (sym jumps) found.goes);
       }

@@ -38,8 +38,9 @@ use Rattle.hint_source.specs.Remembered.{Remembered}
 use Rattle.frag_plan.specs.AtBegin.{slot_at}
 use Rattle.libfunc_registry.specs.Fam.{takes}
 use Rattle.libfunc_meaning.specs.Do.{Do}
-use Rattle.lower_kit.specs.Completing.{IsFree, free_cells, cells_from}
-use Rattle.lower_kit.proofs.Completed.{one_branch, Sound, quietly}
+use Rattle.lower_kit.specs.Completing.{IsFree, free_cells, cells_from, BeginsFresh}
+use Rattle.lower_kit.specs.Logged.{honest}
+use Rattle.lower_kit.proofs.Completed.{one_branch, Sound, quietly, unasked}
 use Rattle.lower_kit.proofs.Free.{free_front, grown_within}
 use Rattle.lower_kit.proofs.Tokens.{no_token, none_in_snap}
 use Rattle.lower_core.proofs.MatchFilled.{match_cells, matching}
@@ -174,22 +175,23 @@ module _ (d : Dictionary Log OpenLog) (args : List CellExpr) (amount : ℕ) (nam
   cells_free fam known change_known k = change_known k ∙ sym (match_change fam known change_known k)
 
   -- an honest run through a match of this family, whose argument holds this variant
-  matched_whole : (fam : DataFam) (vs : List Logged) → ((k : ℕ) → change_by amount (data_ fam) k ≡ known_change (match_row many k).ap) → Sound d (data_ fam) args amount (fragment args (match_plan many))
+  matched_whole : (fam : DataFam) (vs outs : List Logged) → ((s : Remembered) (cells : Readings) → BeginsFresh s (data_ fam) cells) → ((k : ℕ) → change_by amount (data_ fam) k ≡ known_change (match_row many k).ap) → Sound d (data_ fam) args amount (fragment args (match_plan many))
       → (r : Remembered) (m : Cells) (ap_ fp index : ℕ) → IsMemory (get m) → AllLoggedStand listed_ (get m) (takes (data_ fam)) (readings (get m) ap_ fp args) vs → HasRoom (data_ fam) vs
-      → slot_at (get m) ap_ fp args (slots.Arg 0) ≡ Some index → index < modulus → index < many → IsFree (get m) (free_cells r (get m) ap_ fp args (data_ fam) amount index)
-      → Completes d r m ap_ fp (data_ fam) args amount vs index (fragment args (match_plan many))
-  matched_whole fam vs change sound r m ap_ fp index in_field stand room here small within free =
+      → Do honest (data_ fam) vs amount index outs → slot_at (get m) ap_ fp args (slots.Arg 0) ≡ Some index → index < modulus → index < many → IsFree (get m) (free_cells r (get m) ap_ fp args (data_ fam) amount index)
+      → Completes d r m ap_ fp (data_ fam) args amount index outs (fragment args (match_plan many))
+  matched_whole fam vs outs begins change sound r m ap_ fp index in_field stand room does here small within free =
       let cells = match_cells ap_ fp args many index in
       let moves : change_by amount (data_ fam) index ≡ min index (many - 2) = change index ∙ match_least many index within in
       let front = free_front (get m) (cells_from ap_ (change_by amount (data_ fam) index)) _ free in
       let found = matching ap_ fp args many index r m here small within (subst (λ n. IsFree (get m) (cells_from ap_ n)) moves front) in
       let grown = grown_within m found.z.cells cells (free_cells r (get m) ap_ fp args (data_ fam) amount index)
       (λ a h. Contains-append_left (cells_from ap_ (change_by amount (data_ fam) index)) _ a (subst (λ n. Contains (cells_from ap_ n) a) (sym moves) h)) found.grown in
-      quietly d (data_ fam) args amount (fragment args (match_plan many)) sound r m ap_ fp index vs in_field stand room found.z found.goes grown found.named
+      let told = unasked d (data_ fam) args amount (fragment args (match_plan many)) r found.z found.remembers in
+      quietly d (data_ fam) args amount (fragment args (match_plan many)) sound tt begins r m ap_ fp index vs outs in_field stand room does found.z found.goes grown found.named told.0 told.1
 
   enum_match_whole : Takes (data_ (enum_match of)) args amount → Sound d (data_ (enum_match of)) args amount (fragment args (match_plan many)) → (r : Remembered) (m : Cells) (ap_ fp k : ℕ) (vs outs : List Logged)
-      → IsMemory (get m) → AllLoggedStand listed_ (get m) (of ∷ []) (readings (get m) ap_ fp args) vs → HasRoom (data_ (enum_match of)) vs → Do d (data_ (enum_match of)) vs amount k outs
-      → IsFree (get m) (free_cells r (get m) ap_ fp args (data_ (enum_match of)) amount k) → Completes d r m ap_ fp (data_ (enum_match of)) args amount vs k (fragment args (match_plan many))
+      → IsMemory (get m) → AllLoggedStand listed_ (get m) (of ∷ []) (readings (get m) ap_ fp args) vs → HasRoom (data_ (enum_match of)) vs → Do honest (data_ (enum_match of)) vs amount k outs
+      → IsFree (get m) (free_cells r (get m) ap_ fp args (data_ (enum_match of)) amount k) → Completes d r m ap_ fp (data_ (enum_match of)) args amount k outs (fragment args (match_plan many))
   enum_match_whole taken sound r m ap_ fp k vs outs in_field stand room does free =
       let cells = readings (get m) ap_ fp args in
       let one = one_stands listed_ (get m) of cells vs stand in
@@ -200,15 +202,15 @@ module _ (d : Dictionary Log OpenLog) (args : List CellExpr) (amount : ℕ) (nam
       let here = is_read (get m) ap_ fp args (argument args 0) cell ∙ first_word (get m) ap_ fp h.0 args h.4 in
       let small = (in_field (slot_address ap_ fp args (slots.Arg 0)) h.0 here).1 in
       let within = variant_within listed_ (get m) tys h.0 (drop 1 cells) h.1 h.5 in
-      let branch = one_branch d (data_ (enum_match of)) vs amount h.0 k (h.1 ∷ []) outs tt (ap (λ us. data_does (enum_match of) us) (one.1 ∙ ap (λ v. v ∷ []) h.2)) does in
-      subst (λ j. Completes d r m ap_ fp (data_ (enum_match of)) args amount vs j (fragment args (match_plan many))) branch
-      (matched_whole (enum_match of) vs (cells_free (enum_match of) (λ k. refl) (λ k. refl)) sound r m ap_ fp h.0 in_field stand room here small within
+      let branch = one_branch d honest (data_ (enum_match of)) vs amount h.0 k (h.1 ∷ []) outs tt (ap (λ us. data_does (enum_match of) us) (one.1 ∙ ap (λ v. v ∷ []) h.2)) does in
+      subst (λ j. Completes d r m ap_ fp (data_ (enum_match of)) args amount j outs (fragment args (match_plan many))) branch
+      (matched_whole (enum_match of) vs outs (λ s cells. tt) (cells_free (enum_match of) (λ k. refl) (λ k. refl)) sound r m ap_ fp h.0 in_field stand room (subst (λ j. Do honest (data_ (enum_match of)) vs amount j outs) (sym branch) does) here small within
       (subst (λ j. IsFree (get m) (free_cells r (get m) ap_ fp args (data_ (enum_match of)) amount j)) (sym branch) free))
 
   enum_snapshot_match_whole : Takes (data_ (enum_snapshot_match of)) args amount → Sound d (data_ (enum_snapshot_match of)) args amount (fragment args (match_plan many)) → (r : Remembered) (m : Cells) (ap_ fp k : ℕ)
       (vs outs : List Logged) → IsMemory (get m) → AllLoggedStand listed_ (get m) (snap of ∷ []) (readings (get m) ap_ fp args) vs → HasRoom (data_ (enum_snapshot_match of)) vs
-      → Do d (data_ (enum_snapshot_match of)) vs amount k outs → IsFree (get m) (free_cells r (get m) ap_ fp args (data_ (enum_snapshot_match of)) amount k)
-      → Completes d r m ap_ fp (data_ (enum_snapshot_match of)) args amount vs k (fragment args (match_plan many))
+      → Do honest (data_ (enum_snapshot_match of)) vs amount k outs → IsFree (get m) (free_cells r (get m) ap_ fp args (data_ (enum_snapshot_match of)) amount k)
+      → Completes d r m ap_ fp (data_ (enum_snapshot_match of)) args amount k outs (fragment args (match_plan many))
   enum_snapshot_match_whole taken sound r m ap_ fp k vs outs in_field stand room does free =
       let cells = readings (get m) ap_ fp args in
       let one = one_stands listed_ (get m) (snap of) cells vs stand in
@@ -219,9 +221,9 @@ module _ (d : Dictionary Log OpenLog) (args : List CellExpr) (amount : ℕ) (nam
       let here = is_read (get m) ap_ fp args (argument args 0) cell ∙ first_word (get m) ap_ fp h.0 args h.4 in
       let small = (in_field (slot_address ap_ fp args (slots.Arg 0)) h.0 here).1 in
       let within = variant_within listed_ (get m) tys h.0 (drop 1 cells) h.1 h.5 in
-      let branch = one_branch d (data_ (enum_snapshot_match of)) vs amount h.0 k (h.1 ∷ []) outs tt (ap (λ us. data_does (enum_snapshot_match of) us) (one.1 ∙ ap (λ v. v ∷ []) h.2)) does in
-      subst (λ j. Completes d r m ap_ fp (data_ (enum_snapshot_match of)) args amount vs j (fragment args (match_plan many))) branch
-      (matched_whole (enum_snapshot_match of) vs (cells_free (enum_snapshot_match of) (λ k. refl) (λ k. refl)) sound r m ap_ fp h.0 in_field stand room here small within
+      let branch = one_branch d honest (data_ (enum_snapshot_match of)) vs amount h.0 k (h.1 ∷ []) outs tt (ap (λ us. data_does (enum_snapshot_match of) us) (one.1 ∙ ap (λ v. v ∷ []) h.2)) does in
+      subst (λ j. Completes d r m ap_ fp (data_ (enum_snapshot_match of)) args amount j outs (fragment args (match_plan many))) branch
+      (matched_whole (enum_snapshot_match of) vs outs (λ s cells. tt) (cells_free (enum_snapshot_match of) (λ k. refl) (λ k. refl)) sound r m ap_ fp h.0 in_field stand room (subst (λ j. Do honest (data_ (enum_snapshot_match of)) vs amount j outs) (sym branch) does) here small within
       (subst (λ j. IsFree (get m) (free_cells r (get m) ap_ fp args (data_ (enum_snapshot_match of)) amount j)) (sym branch) free))
 
   pub match_lowers : Takes (data_ (enum_match of)) args amount → Lowers d (data_ (enum_match of)) args amount (fragment args (match_plan many))

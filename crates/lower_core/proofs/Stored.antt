@@ -35,6 +35,7 @@ use Rattle.cell_forms.specs.Standing.{listed, AllLoggedStand}
 use Rattle.lower_kit.specs.Completing.{IsFree, free_cells}
 use Rattle.lower_kit.specs.Counting.{token_in, TokensAre}
 use Rattle.lower_kit.specs.Fitting.{Takes}
+use Rattle.lower_kit.specs.Logged.{honest}
 use Rattle.lower_kit.specs.Lowers.{HasRoom, Completes}
 use Rattle.lower_kit.specs.Rows.{lay_each, same_each}
 use Rattle.lower_kit.proofs.Completed.{one_branch, Sound, quietly}
@@ -91,25 +92,25 @@ module _ (d : Dictionary Log OpenLog) (args : List CellExpr) (amount : ℕ) (ty 
       (subst (λ c. TokensAre (sum pointer 0) (ty ∷ []) c) (sym same) (one_stays (sum pointer 0) ty cells whole (token_kept pointer ty cells small whole is)))
 
   pub temp_whole : Takes temp_fam args amount → Sound d temp_fam args amount (fragment args temp_plan) → (r : Remembered) (m : Cells) (ap_ fp k : ℕ) (vs outs : List Logged) → IsMemory (get m)
-      → AllLoggedStand listed (get m) (ty ∷ []) (readings (get m) ap_ fp args) vs → HasRoom temp_fam vs → Do d temp_fam vs amount k outs
-      → IsFree (get m) (free_cells r (get m) ap_ fp args temp_fam amount k) → Completes d r m ap_ fp temp_fam args amount vs k (fragment args temp_plan)
+      → AllLoggedStand listed (get m) (ty ∷ []) (readings (get m) ap_ fp args) vs → HasRoom temp_fam vs → Do honest temp_fam vs amount k outs
+      → IsFree (get m) (free_cells r (get m) ap_ fp args temp_fam amount k) → Completes d r m ap_ fp temp_fam args amount k outs (fragment args temp_plan)
   temp_whole taken sound r m ap_ fp k vs outs in_field stand room does free =
       let n = size ty in
       let many : length (kept 0 n) ≡ n = run_long (terms.Whole 0) n in
       let one = one_stands listed (get m) ty (readings (get m) ap_ fp args) vs stand in
       let all = words (get m) ty (readings (get m) ap_ fp args) one.0 taken.declared.stored one.2 in
       let whole : length args ≡ 0 + n = taken.fit.many in
-      let reads = kept_reads m ap_ fp args 0 0 n in_field taken.in_field (omega (arith, whole)) all in
+      let reads = kept_reads m ap_ fp args 0 0 n in_field taken.fit.in_field (omega (arith, whole)) all in
       let front = free_front (get m) (map (sum ap_) (range_with_len 0 n)) _ free in
       let filled = lays_filled ap_ fp args false (kept 0 n) (exit 0) nothing r m m (extends_itself (get m)) reads (subst (λ i. IsFree (get m) (map (sum ap_) (range_with_len 0 i))) (sym many) front) in
       let z : Filled = record { end = filled.then_; remembered = r; cells = filled.more } in
       let none = lays_no_jump args (kept 0 n) (exit 0) (λ d i. refl) 0 0 in
       let filling = plan_filling args temp_plan ap_ fp 0 r m z (subst (λ jumps. PlanFills ap_ fp args jumps temp_plan nothing r m 0 z) (sym none) (filled.on 0 z (refl, refl))) in
-      let branch = one_branch d temp_fam vs amount 0 k (one.0 ∷ []) outs tt (ap (λ us. control_does (controls.store_temp ty) us) one.1) does in
+      let branch = one_branch d honest temp_fam vs amount 0 k (one.0 ∷ []) outs tt (ap (λ us. control_does (controls.store_temp ty) us) one.1) does in
       let grown = grown_within m filled.more _ (free_cells r (get m) ap_ fp args temp_fam amount 0)
       (λ a h. Contains-append_left (map (sum ap_) (range_with_len 0 n)) _ a (subst (λ i. Contains (map (sum ap_) (range_with_len 0 i)) a) many h)) filled.grown in
-      subst (λ j. Completes d r m ap_ fp temp_fam args amount vs j (fragment args temp_plan)) branch
-      (quietly d temp_fam args amount (fragment args temp_plan) sound r m ap_ fp 0 vs in_field stand room z filling grown filled.named)
+      subst (λ j. Completes d r m ap_ fp temp_fam args amount j outs (fragment args temp_plan)) branch
+      (quietly d temp_fam args amount (fragment args temp_plan) sound tt (λ s cells. tt) r m ap_ fp 0 vs outs in_field stand room (subst (λ j. Do honest temp_fam vs amount j outs) (sym branch) does) z filling grown filled.named refl (omega arith))
 
   abbrev local_fam : Fam
   local_fam = control (controls.store_local ty)
@@ -136,24 +137,24 @@ module _ (d : Dictionary Log OpenLog) (args : List CellExpr) (amount : ℕ) (ty 
       (subst (λ c. TokensAre (sum pointer 0) (ty ∷ []) c) (sym same) (one_stays (sum pointer 0) ty (drop n cells) rest (token_kept pointer ty (drop n cells) small rest is)))
 
   pub local_whole : Takes local_fam args amount → Sound d local_fam args amount (fragment args local_plan) → (r : Remembered) (m : Cells) (ap_ fp k : ℕ) (vs outs : List Logged) → IsMemory (get m)
-      → AllLoggedStand listed (get m) (uninitialized ty ∷ ty ∷ []) (readings (get m) ap_ fp args) vs → HasRoom local_fam vs → Do d local_fam vs amount k outs
-      → IsFree (get m) (free_cells r (get m) ap_ fp args local_fam amount k) → Completes d r m ap_ fp local_fam args amount vs k (fragment args local_plan)
+      → AllLoggedStand listed (get m) (uninitialized ty ∷ ty ∷ []) (readings (get m) ap_ fp args) vs → HasRoom local_fam vs → Do honest local_fam vs amount k outs
+      → IsFree (get m) (free_cells r (get m) ap_ fp args local_fam amount k) → Completes d r m ap_ fp local_fam args amount k outs (fragment args local_plan)
   local_whole taken sound r m ap_ fp k vs outs in_field stand room does free =
       let n = size ty in
       let many : length (kept n n) ≡ n = run_long (terms.Whole n) n in
       let two = two_stand listed (get m) (uninitialized ty) ty (readings (get m) ap_ fp args) vs stand in
       let all = words (get m) ty (drop n (readings (get m) ap_ fp args)) two.1 taken.declared.stored two.4 in
       let whole : length args ≡ 0 + n + n = taken.fit.many in
-      let reads = kept_reads m ap_ fp args n 0 n in_field taken.in_field (omega (arith, whole)) all in
+      let reads = kept_reads m ap_ fp args n 0 n in_field taken.fit.in_field (omega (arith, whole)) all in
       let filled = sames_filled ap_ fp args false 0 (kept n n) (exit 0) nothing r m m (extends_itself (get m)) reads (subst (λ i. IsFree (get m) (argument_cells ap_ fp args false 0 i)) (sym many) free) in
       let z : Filled = record { end = filled.then_; remembered = r; cells = filled.more } in
       let none = sames_no_jump args 0 (kept n n) (exit 0) (λ d i. refl) 0 0 in
       let filling = plan_filling args local_plan ap_ fp 0 r m z (subst (λ jumps. PlanFills ap_ fp args jumps local_plan nothing r m 0 z) (sym none) (filled.on 0 z (refl, refl))) in
-      let branch = one_branch d local_fam vs amount 0 k (two.1 ∷ []) outs tt (ap (λ us. control_does (controls.store_local ty) us) two.2) does in
+      let branch = one_branch d honest local_fam vs amount 0 k (two.1 ∷ []) outs tt (ap (λ us. control_does (controls.store_local ty) us) two.2) does in
       let grown = grown_within m filled.more _ (free_cells r (get m) ap_ fp args local_fam amount 0)
       (λ a h. subst (λ i. Contains (argument_cells ap_ fp args false 0 i) a) many h) filled.grown in
-      subst (λ j. Completes d r m ap_ fp local_fam args amount vs j (fragment args local_plan)) branch
-      (quietly d local_fam args amount (fragment args local_plan) sound r m ap_ fp 0 vs in_field stand room z filling grown filled.named)
+      subst (λ j. Completes d r m ap_ fp local_fam args amount j outs (fragment args local_plan)) branch
+      (quietly d local_fam args amount (fragment args local_plan) sound tt (λ s cells. tt) r m ap_ fp 0 vs outs in_field stand room (subst (λ j. Do honest local_fam vs amount j outs) (sym branch) does) z filling grown filled.named refl (omega arith))
 
 module _ (d : Dictionary Log OpenLog) (args : List CellExpr) (amount : ℕ) where
   abbrev locals_fam : Fam
@@ -163,11 +164,11 @@ module _ (d : Dictionary Log OpenLog) (args : List CellExpr) (amount : ℕ) wher
   locals_plan = line (reserve amount) (exit 0)
 
   pub locals_whole : Sound d locals_fam args amount (fragment args locals_plan) → (r : Remembered) (m : Cells) (ap_ fp k : ℕ) (vs outs : List Logged) → IsMemory (get m)
-      → AllLoggedStand listed (get m) [] (readings (get m) ap_ fp args) vs → HasRoom locals_fam vs → Do d locals_fam vs amount k outs
-      → Completes d r m ap_ fp locals_fam args amount vs k (fragment args locals_plan)
+      → AllLoggedStand listed (get m) [] (readings (get m) ap_ fp args) vs → HasRoom locals_fam vs → Do honest locals_fam vs amount k outs
+      → Completes d r m ap_ fp locals_fam args amount k outs (fragment args locals_plan)
   locals_whole sound r m ap_ fp k vs outs in_field stand room does =
       let z : Filled = record { end = step_by amount nothing; remembered = r; cells = m } in
       let filling = plan_filling args locals_plan ap_ fp 0 r m z (step_by amount nothing, r, m, (refl, refl, refl), (refl, refl)) in
-      let branch = one_branch d locals_fam vs amount 0 k [] outs tt (ap (λ us. control_does controls.finalize_locals us) stand.1) does in
-      subst (λ j. Completes d r m ap_ fp locals_fam args amount vs j (fragment args locals_plan)) branch
-      (quietly d locals_fam args amount (fragment args locals_plan) sound r m ap_ fp 0 vs in_field stand room z filling (not_grown m _) refl)
+      let branch = one_branch d honest locals_fam vs amount 0 k [] outs tt (ap (λ us. control_does controls.finalize_locals us) stand.1) does in
+      subst (λ j. Completes d r m ap_ fp locals_fam args amount j outs (fragment args locals_plan)) branch
+      (quietly d locals_fam args amount (fragment args locals_plan) sound tt (λ s cells. tt) r m ap_ fp 0 vs outs in_field stand room (subst (λ j. Do honest locals_fam vs amount j outs) (sym branch) does) z filling (not_grown m _) refl refl (omega arith))

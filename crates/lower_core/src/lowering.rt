@@ -81,8 +81,9 @@ pub fn is_core(libfunc: Libfunc) -> bool
 
 /// The fragment of a libfunc of control and places, felts and constants, or enums, structs, snapshots and boxes.
 ///
-/// `args` are the expressions of the arguments' cells, in order. `amount` is the number of cells of the locals at a
-/// `finalize_locals`; no other libfunc's fragment depends on it. The one error is out of memory.
+/// `args` are the expressions of the arguments' cells, in order. `amount` is the statement's: at a `finalize_locals` the number of
+/// cells of the locals, by which its fragment moves ap; at an `alloc_local` the offset of the local from fp, where its result is. No
+/// other libfunc of these depends on it. The one error is out of memory.
 pub fn lower(
     alloc: Global,
     types: &Types,

@@ -5,7 +5,7 @@ use Rattle.std.specs.FinMap.{get}
 use Rattle.casm_word.specs.declared.cell_expr.CellExpr.{CellExpr}
 use Rattle.ro_machine.specs.Cells.{Cells}
 use Rattle.hint_source.specs.Remembered.{Remembered}
-use Rattle.frag_fills.specs.Filling.{Filling}
+use Rattle.frag_fills.specs.Filling.{Filled, Filling}
 use Rattle.frag_fills.proofs.Lines.{plan_filling}
 use Rattle.ro_machine.specs.Memory.{IsMemory}
 use Rattle.casm_steps.specs.Reading.{readings}
@@ -22,7 +22,10 @@ use Rattle.frag_plan.specs.AtBegin.{at_begin}
 use Rattle.lower_kit.specs.Fitting.{Takes}
 use Rattle.lower_kit.specs.Counting.{Counts, change_by, token_in, TokensAre}
 use Rattle.lower_kit.specs.Lowers.{Shows, Completes, Lowers}
-use Rattle.lower_kit.proofs.Completed.{IsUnlogged, one_branch, quietly}
+use Rattle.lower_kit.proofs.Completed.{IsUnlogged, one_branch, quietly, unasked}
+use Rattle.ro_machine.specs.Readings.{Readings}
+use Rattle.lower_kit.specs.Completing.{BeginsFresh}
+use Rattle.lower_kit.specs.Logged.{honest}
 use Rattle.lower_kit.proofs.Free.{not_grown}
 use Rattle.lower_kit.proofs.Near.{formed, hints_fine}
 use Rattle.lower_kit.proofs.Shown.{quiet_counts, results_read}
@@ -42,6 +45,7 @@ module _ (d : Dictionary Log OpenLog) (fam : Fam) (args : List CellExpr) (amount
   -- what is told of the family's one branch: it moves ap by nothing and checks nothing; and the family opens no dictionary
   pub record IsStill : Type 0 where
     pub unlogged : IsUnlogged fam
+    pub begins : (r : Remembered) (cells : Readings) → BeginsFresh r fam cells
     pub change : change_by amount fam 0 ≡ 0
     pub moved : moved_by fam 0 ≡ 0
     pub checks : (row_of fam 0).checks ≡ 0
@@ -91,8 +95,11 @@ module _ (d : Dictionary Log OpenLog) (fam : Fam) (args : List CellExpr) (amount
     sound = λ padding m ap_ fp k end vs in_field stand room evaluation small. shown taken still moves padding m ap_ fp k end vs in_field stand evaluation;
     token = λ m ap_ fp k pointer end evaluation small is. handed taken still hands m ap_ fp k pointer end evaluation small is;
     whole = λ r m ap_ fp k vs outs in_field stand room does free knows fresh.
-        let branch = one_branch d fam vs amount 0 k _ outs still.unlogged (moves listed (get m) ap_ fp vs in_field stand).1 does in
-        subst (λ j. Completes d r m ap_ fp fam args amount vs j (fragment args (exit 0))) branch
+        let branch = one_branch d honest fam vs amount 0 k _ outs still.unlogged (moves listed (get m) ap_ fp vs in_field stand).1 does in
+        let does' = subst (λ j. Do honest fam vs amount j outs) (sym branch) does in
+        let z : Filled = record { end = nothing; remembered = r; cells = m } in
+        let told = unasked d fam args amount (fragment args (exit 0)) r z refl in
+        subst (λ j. Completes d r m ap_ fp fam args amount j outs (fragment args (exit 0))) branch
         (quietly d fam args amount (fragment args (exit 0)) (λ padding m ap_ fp k end vs in_field stand room evaluation small. shown taken still moves padding m ap_ fp k end vs in_field stand evaluation)
-        r m ap_ fp 0 vs in_field stand room (record { end = nothing; remembered = r; cells = m }) (filled r m ap_ fp) (not_grown m _) refl);
+        still.unlogged still.begins r m ap_ fp 0 vs outs in_field stand room does' z (filled r m ap_ fp) (not_grown m _) refl told.0 told.1);
   }

@@ -1,5 +1,5 @@
 -- An honest run through a fragment, from a filling of its cells.
-use Rattle.std.proofs.Common.{◌≡◌, ◌<◌, ℕ, Option, Some, None, List, [], ◌∷◌, refl, sym, ap, ◌∙◌, subst}
+use Rattle.std.proofs.Common.{◌≡◌, ◌<◌, ◌≤◌, ◌+◌, ℕ, Option, Some, None, List, [], ◌∷◌, refl, sym, ap, ◌∙◌, subst, arith}
 use Rattle.std.specs.FinMap.{get}
 use Rattle.std.specs.List.{AllByRecursion}
 use Rattle.casm_word.specs.declared.cell_expr.CellExpr.{CellExpr}
@@ -23,7 +23,11 @@ use Rattle.cell_forms.specs.LogStands.{LogStands, OpenLogStands}
 use Rattle.cell_forms.specs.Standing.{Padding, Asked, listed, AllLoggedStand}
 use Rattle.cell_forms.proofs.Growth.{all_kept}
 use Rattle.cell_forms.proofs.Logs.{asked_kept, log_kept, open_log_kept}
-use Rattle.lower_kit.specs.Completing.{free_cells}
+use Rattle.felt64.specs.Field.{sum}
+use Rattle.ro_machine.specs.Readings.{Readings}
+use Rattle.cost_table.specs.Results.{branch_types, results}
+use Rattle.lower_kit.specs.Completing.{free_cells, BeginsFresh}
+use Rattle.lower_kit.specs.Logged.{honest}
 use Rattle.lower_kit.specs.Counting.{range_bound}
 use Rattle.lower_kit.specs.Lowers.{HasRoom, Shows, Completes}
 use Rattle.lower_kit.proofs.Free.{Grown}
@@ -50,15 +54,23 @@ abbrev branch_in : Option (ℕ × List Logged) → ℕ
 branch_in None = 0
 branch_in (Some told) = told.0
 
--- it takes one branch
-pub one_branch : (d : Dictionary Log OpenLog) (fam : Fam) (vs : List Logged) (amount k l : ℕ) (outs rest : List Logged) → IsUnlogged fam → Do d fam vs amount k outs → Do d fam vs amount l rest → k ≡ l
-one_branch d (control fam) vs amount k l outs rest un first second = ap branch_in (sym first ∙ second)
-one_branch d (gas fam) vs amount k l outs rest un first second = ap branch_in (sym first ∙ second)
-one_branch d (felts fam) vs amount k l outs rest un first second = ap branch_in (sym first ∙ second)
-one_branch d (integers fam) vs amount k l outs rest un first second = ap branch_in (sym first ∙ second)
-one_branch d (data_ fam) vs amount k l outs rest un first second = ap branch_in (sym first ∙ second)
-one_branch d (arrays fam) vs amount k l outs rest un first second = ap branch_in (sym first ∙ second)
-one_branch d (dictionaries fam) vs amount k l outs rest un first second = absurd un
+abbrev outs_in : Option (ℕ × List Logged) → List Logged
+outs_in None = []
+outs_in (Some told) = told.1
+
+-- it takes one branch, and gives the same whatever dictionaries are
+pub one_answer : (d e : Dictionary Log OpenLog) (fam : Fam) (vs : List Logged) (amount k l : ℕ) (outs rest : List Logged) → IsUnlogged fam → Do d fam vs amount k outs → Do e fam vs amount l rest
+    → (k ≡ l) × (outs ≡ rest)
+one_answer d e (control fam) vs amount k l outs rest un first second = (ap branch_in (sym first ∙ second), ap outs_in (sym first ∙ second))
+one_answer d e (gas fam) vs amount k l outs rest un first second = (ap branch_in (sym first ∙ second), ap outs_in (sym first ∙ second))
+one_answer d e (felts fam) vs amount k l outs rest un first second = (ap branch_in (sym first ∙ second), ap outs_in (sym first ∙ second))
+one_answer d e (integers fam) vs amount k l outs rest un first second = (ap branch_in (sym first ∙ second), ap outs_in (sym first ∙ second))
+one_answer d e (data_ fam) vs amount k l outs rest un first second = (ap branch_in (sym first ∙ second), ap outs_in (sym first ∙ second))
+one_answer d e (arrays fam) vs amount k l outs rest un first second = (ap branch_in (sym first ∙ second), ap outs_in (sym first ∙ second))
+one_answer d e (dictionaries fam) vs amount k l outs rest un first second = absurd un
+
+pub one_branch : (d e : Dictionary Log OpenLog) (fam : Fam) (vs : List Logged) (amount k l : ℕ) (outs rest : List Logged) → IsUnlogged fam → Do d fam vs amount k outs → Do e fam vs amount l rest → k ≡ l
+one_branch d e fam vs amount k l outs rest un first second = (one_answer d e fam vs amount k l outs rest un first second).0
 
 module _ (d : Dictionary Log OpenLog) (fam : Fam) (args : List CellExpr) (amount : ℕ) (frag : List Piece) where
   abbrev pub Sound : Type 0
@@ -68,16 +80,27 @@ module _ (d : Dictionary Log OpenLog) (fam : Fam) (args : List CellExpr) (amount
       → Shows d padding m ap_ fp fam args amount vs k end
 
   -- a filling that names no range-check cell and adds free cells alone is an honest run
-  pub quietly : Sound → (r : Remembered) (m : Cells) (ap_ fp k : ℕ) (vs : List Logged) → IsMemory (get m) → AllLoggedStand listed (get m) (takes fam) (readings (get m) ap_ fp args) vs
-      → HasRoom fam vs → (z : Filled) → Filling frag ap_ fp r m k z → Grown m (free_cells r (get m) ap_ fp args fam amount k) z.cells → z.end.named ≡ []
-      → Completes d r m ap_ fp fam args amount vs k frag
-  quietly sound r m ap_ fp k vs in_field stand room z filling grown named =
+  pub quietly : Sound → IsUnlogged fam → ((r : Remembered) (cells : Readings) → BeginsFresh r fam cells) → (r : Remembered) (m : Cells) (ap_ fp k : ℕ) (vs outs : List Logged) → IsMemory (get m)
+      → AllLoggedStand listed (get m) (takes fam) (readings (get m) ap_ fp args) vs → HasRoom fam vs → Do honest fam vs amount k outs → (z : Filled) → Filling frag ap_ fp r m k z
+      → Grown m (free_cells r (get m) ap_ fp args fam amount k) z.cells → z.end.named ≡ [] → z.remembered.logs ≡ r.logs → z.remembered.fresh ≤ r.fresh + z.end.steps
+      → Completes d r m ap_ fp fam args amount k outs frag
+  quietly sound un begins r m ap_ fp k vs outs in_field stand room does z filling grown named logs segments =
       let small = subst (λ cells. AllByRecursion (λ cell. cell.1 < range_bound) cells) (sym named) tt in
       let still = stand_still (get m) (get z.cells) (filling_extends frag ap_ fp k r m z filling) ap_ fp listed (takes fam) args vs stand in
+      let shows = sound listed (get z.cells) ap_ fp k z.end vs (grown.in_field in_field) still room (filling_evaluates frag ap_ fp k r m z filling) small in
+      let same = (one_answer d honest fam vs amount k k shows.outs outs un shows.means does).1 in
       record {
         filled = z;
         filling = filling;
         small = small;
         only = grown.only;
-        shows = sound listed (get z.cells) ap_ fp k z.end vs (grown.in_field in_field) still room (filling_evaluates frag ap_ fp k r m z filling) small;
+        in_field = grown.in_field in_field;
+        stand = subst (λ us. AllLoggedStand listed (get z.cells) (branch_types fam k) (readings (get z.cells) (sum ap_ z.end.change) fp (results args amount fam k)) us) same shows.stand;
+        begins = begins r _;
+        logs = logs;
+        segments = segments;
       }
+
+  -- where the source is asked nothing
+  pub unasked : (r : Remembered) (z : Filled) → z.remembered ≡ r → (z.remembered.logs ≡ r.logs) × (z.remembered.fresh ≤ r.fresh + z.end.steps)
+  unasked r z is = (ap (λ s. s.logs) is, let same : z.remembered.fresh ≡ r.fresh = ap (λ s. s.fresh) is in omega (arith, same))

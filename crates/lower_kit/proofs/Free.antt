@@ -50,7 +50,7 @@ first_free m a xs free = free.0.0
 other_kept : (m more : Cells) (a w b : ℕ) → Gets m a w more → (a ≡ b → ⊥) → get more b ≡ get m b
 other_kept m more a w b gets other =
     let at = get-insert nat_cmp_total m a w b in
-    ap (λ cells. get cells b) gets.1 ∙ grind (arith, nat_tests, at, other)
+    ap (λ cells. get cells b) gets.added ∙ grind (arith, nat_tests, at, other)
 
 differ : (a b : ℕ) → eqb a b ≡ false → a ≡ b → ⊥
 differ a b not same = grind (arith, nat_tests, not, same)
@@ -78,11 +78,11 @@ no_word (Some w) none some = cc
 pub not_grown : (m : Cells) (cells : List ℕ) → Grown m cells m
 not_grown m cells = record { in_field = λ h. h; only = λ a none some. absurd (no_word (get m a) none some) }
 
-pub grown_by_one : (m more : Cells) (a w : ℕ) (cells : List ℕ) → Gets m a w more → a < modulus → w < modulus → Contains cells a → Grown m cells more
-grown_by_one m more a w cells gets address_small word_small within = record {
+pub grown_by_one : (m more : Cells) (a w : ℕ) (cells : List ℕ) → Gets m a w more → a < modulus → Contains cells a → Grown m cells more
+grown_by_one m more a w cells gets address_small within = record {
   in_field = λ h x n is.
       elim (cases_eq a x) [
-        | inl same ↦ (subst (λ y. y < modulus) same address_small, subst (λ v. v < modulus) (word_here x n same is) word_small)
+        | inl same ↦ (subst (λ y. y < modulus) same address_small, subst (λ v. v < modulus) (word_here x n same is) gets.small)
         | inr other ↦ h x n (sym (other_kept m more a w x gets other) ∙ is)
       ];
   only = λ x none some.
@@ -94,7 +94,7 @@ grown_by_one m more a w cells gets address_small word_small within = record {
   word_here : (x n : ℕ) → a ≡ x → get more x ≡ Some n → w ≡ n
   word_here x n same is =
       let at = get-insert nat_cmp_total m a w x in
-      let here : get (insert m a w) x ≡ Some n = sym (ap (λ cells. get cells x) gets.1) ∙ is in
+      let here : get (insert m a w) x ≡ Some n = sym (ap (λ cells. get cells x) gets.added) ∙ is in
       let word : get (insert m a w) x ≡ Some w = grind (arith, nat_tests, at, same) in
       let equal : Some w ≡ Some n = sym word ∙ here in cc
 

@@ -36,7 +36,7 @@ module _ (r : Remembered) (m : ℕ → Option ℕ) (ap fp : ℕ) (args : List Ce
   abbrev pub word_at : ℕ → ℕ
   word_at i = unwrap_or (reading m ap fp (argument args i)) 0
 
-  -- The cells besides those above ap and the range checks': the local's that is stored, those of a new box, those behind an array that
+  -- The cells besides those above ap and the range checks': those of the local where a value is stored, those of a new box, those behind an array that
   -- grows, and those of an access at the end of its log.
   abbrev pub targets : Fam → List ℕ
   targets (control (controls.store_local ty)) = map (λ i. address ap fp (at_of (argument args i))) (range_with_len 0 (size ty))
@@ -62,3 +62,9 @@ KnowsLog r _ cells vs = Unit {0}
 abbrev pub KnowsLogs : Remembered → List Ty → Readings → List Logged → Type 0
 KnowsLogs r [] cells vs = Unit {0}
 KnowsLogs r (ty ∷ tys) cells vs = KnowsLog r ty cells vs × KnowsLogs r tys (drop (size ty) cells) (drop 1 vs)
+
+-- a new array, and a new dictionary, begins and ends where the next free segment does
+abbrev pub BeginsFresh : Remembered → Fam → Readings → Type 0
+BeginsFresh r (arrays (array.array_new ty)) cells = cells ≡ fresh_answer r.fresh ∷ fresh_answer r.fresh ∷ []
+BeginsFresh r (dictionaries (dictionary.dict_new num)) cells = cells ≡ fresh_answer r.fresh ∷ fresh_answer r.fresh ∷ []
+BeginsFresh r _ cells = Unit {0}

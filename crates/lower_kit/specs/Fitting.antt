@@ -3,7 +3,6 @@ use Rattle.std.specs.Prelude.{ℕ, ◌<◌, ◌≤◌, ◌^◌, List, length}
 use Rattle.std.specs.List.{All}
 use Rattle.type_trees.specs.Ty.{Ty, size}
 use Rattle.type_table.specs.Trees.{IsAllowed}
-use Rattle.casm_word.specs.Expressions.{IsExprInField}
 use Rattle.casm_word.specs.Offset.{IsNear}
 use Rattle.casm_word.specs.declared.cell_expr.CellExpr.{CellExpr}
 use Rattle.casm_word.specs.declared.cell_expr.CellExpr.TheVariants as expr
@@ -45,11 +44,9 @@ pub record IsAsDeclared (fam : Fam) : Type 0 where
   pub allowed_results : All (All IsAllowed) (gives fam)
   pub stored : IsStored fam
 
--- The expressions fit the family, which is as a declared one is, with numbers of the field, and the amount of a statement is below
--- 2 ^ 40.
+-- The expressions fit the family, which is as a declared one is, and the amount of a statement is below 2 ^ 40.
 pub record Takes (fam : Fam) (args : List CellExpr) (amount : ℕ) : Type 0 where
   pub declared : IsAsDeclared fam
   pub fit : Fit fam args
   pub inner : All IsInnerNear args
-  pub in_field : All IsExprInField args
   pub few : amount < 2 ^ 40

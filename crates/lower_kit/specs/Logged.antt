@@ -29,3 +29,12 @@ logged = record {
   Closes = λ e word log. log ≡ record { key = e.key; previous = e.previous; new = word } ∷ e.log;
   Ends = λ log squashed. IsConsistent log × (squashed ≡ map_of log);
 }
+
+-- the same, but an opened entry finds the right word, as in an honest run
+abbrev pub honest : Dictionary Log OpenLog
+honest = record {
+  Begins = λ log. log ≡ [];
+  Opens = λ log key word e. (word ≡ last_word key log) × (e ≡ record { log = log; key = key; previous = word });
+  Closes = λ e word log. log ≡ record { key = e.key; previous = e.previous; new = word } ∷ e.log;
+  Ends = λ log squashed. IsConsistent log × (squashed ≡ map_of log);
+}

@@ -1,7 +1,7 @@
 -- The lowering contract: what is promised of the fragment of a libfunc over the expressions of its arguments. It speaks of all
 -- families but two whose fragments do only a part of what their rows say, and whose values are another's: a call, and the squash
 -- of a dictionary.
-use Rattle.std.specs.Prelude.{◌≡◌, ◌<◌, ◌^◌, ◌+◌, ℕ, Option, Some, None, List, [], ◌∷◌, length, IsTrue, IsSome}
+use Rattle.std.specs.Prelude.{◌≡◌, ◌<◌, ◌≤◌, ◌+◌, ℕ, Option, Some, None, List, [], ◌∷◌, length, IsTrue, IsSome}
 use Rattle.std.specs.List.{AllByRecursion, Contains}
 use Rattle.std.specs.FinMap.{get}
 use Rattle.felt64.specs.Field.{modulus, sum}
@@ -25,16 +25,18 @@ use Rattle.libfunc_meaning.specs.Dictionaries.{Dictionary}
 use Rattle.libfunc_meaning.specs.Do.{Do}
 use Rattle.cost_table.specs.Costs.{row_of}
 use Rattle.cost_table.specs.Results.{branch_types, results}
+use Rattle.cell_forms.specs.Stands.{most_elements}
 use Rattle.cell_forms.specs.Standing.{Padding, listed, AllLoggedStand}
-use Rattle.lower_kit.specs.Completing.{IsFree, free_cells, KnowsLogs}
+use Rattle.lower_kit.specs.Completing.{IsFree, free_cells, KnowsLogs, BeginsFresh}
+use Rattle.lower_kit.specs.Logged.{honest}
 use Rattle.lower_kit.specs.Counting.{range_bound, Counts, token_in, TokensAre}
 
 -- an array, or a log, that grows has room for one element more
 abbrev pub HasRoom : Fam → List Logged → Type 0
 HasRoom (arrays (array.array_append ty)) vs =
-    (us : List Logged) (v : Logged) → vs ≡ val.array (vals_of us) ∷ v ∷ [] → length us + 1 < 2 ^ 32
+    (us : List Logged) (v : Logged) → vs ≡ val.array (vals_of us) ∷ v ∷ [] → length us + 1 < most_elements
 HasRoom (dictionaries (dictionary.dict_entry_finalize num)) vs =
-    (e : OpenLog) (v : Logged) → vs ≡ val.dict_entry e ∷ v ∷ [] → length e.log + 1 < 2 ^ 32
+    (e : OpenLog) (v : Logged) → vs ≡ val.dict_entry e ∷ v ∷ [] → length e.log + 1 < most_elements
 HasRoom _ vs = Unit {0}
 
 module _ (d : Dictionary Log OpenLog) where
@@ -44,14 +46,19 @@ module _ (d : Dictionary Log OpenLog) where
     pub means : Do d fam vs amount k outs
     pub stand : AllLoggedStand padding m (branch_types fam k) (readings m (sum ap end.change) fp (results args amount fam k)) outs
 
-  -- An honest run goes through the fragment on branch k: the cells get their words as the equations and the honest answers say, none
-  -- but free ones, allowed ones where ranges are checked; and the results hold what the family does, with their padding listed.
-  pub record Completes (r : Remembered) (m : Cells) (ap fp : ℕ) (fam : Fam) (args : List CellExpr) (amount : ℕ) (vs : List Logged) (k : ℕ) (frag : List Piece) : Type 0 where
+  -- An honest run goes through the fragment on branch k. The cells get their words as the equations and the honest answers say: no
+  -- cells but free ones, small words where ranges are checked, and the memory stays one. The results hold these values, their padding
+  -- listed. The source has no other logs than before, and gave no more free segments than there were steps.
+  pub record Completes (r : Remembered) (m : Cells) (ap fp : ℕ) (fam : Fam) (args : List CellExpr) (amount k : ℕ) (outs : List Logged) (frag : List Piece) : Type 0 where
     pub filled : Filled
     pub filling : Filling frag ap fp r m k filled
     pub small : AllByRecursion (λ cell. cell.1 < range_bound) filled.end.named
     pub only : (a : ℕ) → get m a ≡ None → IsSome (get filled.cells a) → Contains (free_cells r (get m) ap fp args fam amount k) a
-    pub shows : Shows listed (get filled.cells) ap fp fam args amount vs k filled.end
+    pub in_field : IsMemory (get filled.cells)
+    pub stand : AllLoggedStand listed (get filled.cells) (branch_types fam k) (readings (get filled.cells) (sum ap filled.end.change) fp (results args amount fam k)) outs
+    pub begins : BeginsFresh r fam (readings (get filled.cells) (sum ap filled.end.change) fp (results args amount fam k))
+    pub logs : filled.remembered.logs ≡ r.logs
+    pub segments : filled.remembered.fresh ≤ r.fresh + filled.end.steps
 
   pub record Lowers (fam : Fam) (args : List CellExpr) (amount : ℕ) (frag : List Piece) : Type 0 where
     pub form : IsWellFormed frag
@@ -68,9 +75,10 @@ module _ (d : Dictionary Log OpenLog) where
     pub token : (m : ℕ → Option ℕ) (ap fp k pointer : ℕ) (end : Tally) → Evaluation frag m ap fp k end → pointer < modulus
         → token_in (takes fam) (readings m ap fp args) ≡ Some pointer
         → TokensAre (sum pointer (row_of fam k).checks) (branch_types fam k) (readings m (sum ap end.change) fp (results args amount fam k))
-    -- where the arguments hold values, their padding listed, of which the family does something on branch k, an honest run goes through
-    -- the fragment on that branch: if the cells that may get a word are free, and the source knows the logs and has an answer to Fresh
+    -- Where the arguments hold values, with their padding listed, and the family does something with these values on branch k, each
+    -- entry that it opens finding the right word: an honest run goes through the fragment on that branch, if the cells that may get
+    -- a word are free, and the source knows the logs and has an answer to Fresh.
     pub whole : (r : Remembered) (m : Cells) (ap fp k : ℕ) (vs outs : List Logged) → IsMemory (get m)
-        → AllLoggedStand listed (get m) (takes fam) (readings (get m) ap fp args) vs → HasRoom fam vs → Do d fam vs amount k outs
+        → AllLoggedStand listed (get m) (takes fam) (readings (get m) ap fp args) vs → HasRoom fam vs → Do honest fam vs amount k outs
         → IsFree (get m) (free_cells r (get m) ap fp args fam amount k) → KnowsLogs r (takes fam) (readings (get m) ap fp args) vs → IsSome (fresh_answer r.fresh)
-        → Completes r m ap fp fam args amount vs k frag
+        → Completes r m ap fp fam args amount k outs frag
