@@ -2,4 +2,9 @@
 #![tactic(auto)]
 
 #[cfg(test)]
+mod emitting;
+mod laws;
+#[cfg(test)]
+mod steps;
+#[cfg(test)]
 mod tests;
